@@ -1,8 +1,9 @@
 -- What is shown for a line that was found to end with the generic form.
 use Rattle.std.proofs.Common.{◌≡◌, ℕ, List, [], ◌∷◌, ◌++◌, ap, ◌∙◌, subst, append_assoc, append-nil, sym}
 use Rattle.words_print.specs.Machine.Found.{FoundIn}
-use Rattle.words_print.specs.Shown.{ArePrinted, GetsMnemonic, IsRecordInWords, IsShownLine, StatesItsClass, after_others, in_words}
+use Rattle.words_print.specs.Shown.{GetsMnemonic, IsRecordInWords, IsShownLine, StatesItsClass, after_others, in_words}
 use Rattle.words_print.specs.declared.generic_line.GenericLine.{GenericLine}
+use Rattle.zone_words.specs.Printed.{ArePrinted}
 use Rattle.zone_words.specs.Table.{further_of}
 
 names : (line old new front words end : List ℕ) (g : GenericLine) → FoundIn line g → ArePrinted words → old ≡ front ++ g.word.now ++ g.form.now ++ end → new ≡ front ++ g.further.now.mnemonic.now ++ words ++ end → GetsMnemonic old new

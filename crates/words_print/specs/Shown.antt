@@ -1,7 +1,7 @@
 -- What is shown for the lines of a text: the data of records of further types in words in place of
 -- the generic form (RFC 3597 5). That words stand for data is said by their rewriting: the generic
 -- form that stood there.
-use Rattle.std.specs.Prelude.{◌≡◌, ◌≢◌, ◌≤◌, ◌⊎◌, ℕ, List, [], ◌∷◌, ◌++◌, EachIndex, IsSome, slice_index, ⊤}
+use Rattle.std.specs.Prelude.{◌≡◌, ◌≢◌, ◌⊎◌, ℕ, List, [], ◌∷◌, ◌++◌, IsSome, ⊤}
 use Rattle.std.specs.List.{AllByRecursion}
 use Rattle.zone_name.specs.Common.{Labels}
 use Rattle.zone_print.specs.Laws.{EndsWithItsFeed, HasNoFeed}
@@ -12,6 +12,7 @@ use Rattle.zone_text.specs.Statements.{statement_of}
 use Rattle.zone_text.specs.Tokens.{Token}
 use Rattle.zone_words.specs.Data.{joined}
 use Rattle.zone_words.specs.Entry.{IsRewriting}
+use Rattle.zone_words.specs.Printed.{ArePrinted}
 use Rattle.zone_words.specs.Table.{FurtherType, IsFurtherWord}
 
 -- the octets are one record of a master file, which states its class, and the line feed that ends
@@ -20,11 +21,6 @@ pub record StatesItsClass (octets : List ℕ) : Type 0 where
   pub tokens : List Token
   pub one : IsOneEntry octets tokens
   pub class : IsSome (class_word (statement_of (entry_of 1 tokens)))
-
--- octets that a terminal shows as they are: spaces and the graphic ones of ASCII (RFC 20 4)
-abbrev pub ArePrinted : List ℕ → Type 0
-ArePrinted octets =
-    EachIndex octets (λ k. (32 ≤ slice_index octets k) × (slice_index octets k ≤ 126))
 
 -- All before the word of a further type stays. Its mnemonic takes the word's place, and words that
 -- are printed that of what stands after it, up to an end that stays too.

@@ -1,11 +1,12 @@
 //! Lines in words.
-ghost use Rattle.std.specs.Prelude.{◌≡◌, ◌≢◌, ◌↔◌, ◌++◌, ◌∷◌, [], IfOk, IsTrue, Ok, OnErr, OnOk, length, map, true};
+ghost use Rattle.std.specs.Prelude.{◌≡◌, ◌≢◌, ◌++◌, ◌∷◌, [], IfOk, Ok, OnErr, OnOk, length, map, true};
 ghost use Rattle.words_print.specs.Machine.Found.{FoundIn, HoldsNothing};
-ghost use Rattle.words_print.specs.Shown.{ArePrinted, IsRecordInWords, IsShownLine};
+ghost use Rattle.words_print.specs.Shown.{IsRecordInWords, IsShownLine};
 ghost use Rattle.zone_rdata.specs.Item.{raw};
 ghost use Rattle.zone_text.specs.FirstEntry.{IsFirstEntry};
 ghost use Rattle.zone_words.specs.Entry.{IsRewriting};
 ghost use Rattle.zone_words.specs.Fault.{AppendsStated};
+ghost use Rattle.zone_words.specs.Printed.{ArePrinted};
 
 use crate::class_stated::{ClassStated, class_stated, room_for_items};
 use crate::digits::read_digits;
@@ -85,13 +86,6 @@ fn is_in_words(
     is_rewritten(reader, &another_origin(), text, &items, wanted)
 }
 
-/// Whether a terminal shows each octet as it is.
-fn are_printed(octets: &[u8]) -> bool
-    ensures { IsTrue result ↔ ArePrinted octets.now }
-{
-    octets.iter().all(|octet| *octet >= b' ' && *octet <= b'~')
-}
-
 /// Puts the record of a line in words after octets, and an end after it, in place of what `shown`
 /// held.
 fn put_shown(
@@ -151,8 +145,8 @@ impl LinePrinter {
         self.wanted.clear();
     }
 
-    /// Appends the words of a line's data to `words`. `false`: its octets have no words, or a
-    /// terminal would show some as something else, and `words` may have got some.
+    /// Puts the words of a line's data in place of what `words` held. `false`: its octets have no
+    /// words, and `words` may have got some.
     fn find_words(&mut self, found: &GenericLine) -> Result<bool, AllocError>
         ensures { result ≡ Ok true → ArePrinted self.new.words.items }
     {
@@ -160,7 +154,7 @@ impl LinePrinter {
             return Ok(false);
         }
         match print_data(found.further.fields, &self.octets, &mut self.words) {
-            Ok(()) => Ok(are_printed(&self.words)),
+            Ok(()) => Ok(true),
             Err(Unprinted::NoData) => Ok(false),
             Err(Unprinted::OutOfMemory) => Err(AllocError),
         }

@@ -26,8 +26,7 @@ use Rattle.zone_words.specs.DataItem.{items_of}
 use Rattle.zone_words.specs.Entry.{in_words}
 use Rattle.zone_words.specs.Rewriting.{EachBecomes, whole}
 use Rattle.zone_words.specs.Table.{fields_in}
-use Rattle.zone_words.specs.PrintedData.{PrintsData}
-use Rattle.zone_words.specs.WordsLine.{IsBareText, IsHead, IsQuoted, Stands, StandsBehind, generic_line, words_line, written_items}
+use Rattle.zone_words.specs.WordsLine.{AreWords, IsBareText, IsHead, IsQuoted, Stands, StandsBehind, generic_line, words_line, written_items}
 use Rattle.zone_words.specs.Written.{Anew, digit_tokens, in_octets}
 use Rattle.zone_words.proofs.HeadLines.{IsOneOf, front, front_text, line_cut, line_ended, line_items, one_line, tail, tail_stays, tail_touching, tokens}
 
@@ -107,7 +106,7 @@ record_parts ttl_text class_text type_text items is_ttl no_ttl is_class none =
     ∙ next_part (ttl ttl_text ∷ []) (raw.bare class_text) (raw.bare type_text ∷ items) (Some (class class_text)) (rw (no_ttl, is_class) refl)
     ∙ next_part (ttl ttl_text ∷ class class_text ∷ []) (raw.bare type_text) items None (none (ttl ttl_text ∷ class class_text ∷ []))
 
-module _ (head : List ℕ) (class_number : ℕ) (further : FurtherType) (items : List TouchingItem) (octets : List ℕ) (h : IsHead head class_number) (row : further_type further.number ≡ Some further) (printed : PrintsData further.fields items octets) where
+module _ (head : List ℕ) (class_number : ℕ) (further : FurtherType) (items : List TouchingItem) (octets : List ℕ) (h : IsHead head class_number) (row : further_type further.number ≡ Some further) (printed : AreWords further.fields items octets) where
   abbrev s : AllByRecursion StandsBehind items
   s = printed.stand
 

@@ -9,7 +9,6 @@ pub mod Table
 pub mod Data
 pub mod Parameters
 pub mod Printed
-pub mod PrintedData
 pub mod Machine
 pub mod Written
 pub mod Rewriting

@@ -1,11 +1,16 @@
 -- How data is printed in words: for each kind of field a text of its octets, as items, each after a
 -- blank (RFC 1035 5.1). Octets that no items state aren't printed.
-use Rattle.std.specs.Prelude.{◌≡◌, ℕ, List, ◌∷◌, ◌++◌, ⊤}
+use Rattle.std.specs.Prelude.{◌≡◌, ◌≤◌, ℕ, List, ◌∷◌, ◌++◌, EachIndex, slice_index, ⊤}
 use Rattle.std.specs.List.{flat_map}
 use Rattle.zone_rdata.specs.Item.{RawItem}
 use Rattle.zone_rdata.specs.Text.{written_item}
 use Rattle.zone_words.specs.declared.unprinted.Unprinted.{Unprinted}
 use Rattle.zone_words.specs.declared.unprinted.Unprinted.TheVariants as unprinted
+
+-- octets that a terminal shows as they are: spaces and the graphic ones of ASCII (RFC 20 4)
+abbrev pub ArePrinted : List ℕ → Type 0
+ArePrinted octets =
+    EachIndex octets (λ k. (32 ≤ slice_index octets k) × (slice_index octets k ≤ 126))
 
 -- A part at the front of octets is printed: its text is appended, and `rest` is left. No text states
 -- another part there.

@@ -1,16 +1,20 @@
 -- A record of a further type on one line of a master file, with its data in words and in the
 -- generic form (RFC 1035 5.1, RFC 3597 5).
-use Rattle.std.specs.Prelude.{◌≡◌, ◌≢◌, ℕ, List, [], ◌∷◌, ◌++◌, Bool, true, if◌then◌else◌, slice_get, IfSome, ⊤}
+use Rattle.std.specs.Prelude.{◌≡◌, ◌≢◌, ◌+◌, ◌<◌, ℕ, List, [], ◌∷◌, ◌++◌, length, true, if◌then◌else◌, slice_get, IfSome, ⊤}
+use Rattle.std.specs.List.{AllByRecursion}
+use Rattle.zone_name.specs.Common.{Labels}
 use Rattle.zone_name.specs.Spelling.{Written, written_text}
-use Rattle.zone_rdata.specs.Item.{RawItem}
+use Rattle.zone_rdata.specs.Item.{IsGeneric, RawItem}
 use Rattle.zone_rdata.specs.Item as raw
 use Rattle.zone_rdata.specs.Strings.{StandsInQuotes}
 use Rattle.zone_rdata.specs.Text.{written_item}
 use Rattle.zone_rdata.specs.Words.{IsClass, IsClassWord}
 use Rattle.zone_text.specs.Inherited.{IsTtl}
 use Rattle.zone_text.specs.Tokens.{IsToken, bare, text}
-use Rattle.zone_words.specs.DataItem.{TouchingItem}
-use Rattle.zone_words.specs.Table.{FurtherType}
+use Rattle.zone_words.specs.Data.{StatesData, in_order}
+use Rattle.zone_words.specs.DataItem.{TouchingItem, items_of}
+use Rattle.zone_words.specs.Entry.{most_items}
+use Rattle.zone_words.specs.Table.{Fields, FurtherType, fields_in}
 use Rattle.zone_words.specs.Written.{generic_tokens}
 
 -- a text that is one bare item
@@ -38,6 +42,15 @@ abbrev pub written_items : List TouchingItem → List ℕ
 written_items [] = []
 written_items (i ∷ items) =
     (if i.touches then [] else 32 ∷ []) ++ (written_item i.item ++ written_items items)
+
+-- Items that are the words of a type's data, and stand on a line as they are: they state the octets
+-- under every origin, and no entry with them has too many items.
+pub record AreWords (fields : Fields) (items : List TouchingItem) (octets : List ℕ) : Type 0 where
+  pub states : (origin : Labels)
+      → StatesData origin (fields_in fields items) (in_order fields) items octets
+  pub stand : AllByRecursion StandsBehind items
+  pub few : length items + 4 < most_items
+  pub in_words : IsGeneric (items_of items) → ⊥
 
 -- what stands before the type: the owner, the TTL and the class, each before a blank
 pub record IsHead (head : List ℕ) (class : ℕ) : Type 0 where

@@ -12,23 +12,22 @@ ghost use Rattle.zone_text.specs.Statements.{statement_of};
 ghost use Rattle.zone_text.specs.Tokens.{Token};
 ghost use Rattle.zone_words.specs.DataItem.{TouchingItem};
 ghost use Rattle.zone_words.specs.Entry.{IsRewriting};
-ghost use Rattle.zone_words.specs.PrintedData.{PrintsData};
 ghost use Rattle.zone_words.specs.Table.{FurtherType, further_type};
-ghost use Rattle.zone_words.specs.WordsLine.{IsHead, generic_line, words_line};
+ghost use Rattle.zone_words.specs.WordsLine.{AreWords, IsHead, generic_line, words_line};
 
-/// The line of a record with the words that are printed for its data is one entry, which states its
+/// The line of a record with the words of its data is one entry, which states its
 /// class, and it is rewritten, under every origin, as the line with that data in the generic form.
 pub fn a_line_in_words_is_rewritten()
     ensures entry { (head : List ℕ) (class : ℕ) (further : FurtherType)
         (items : List TouchingItem) (octets : List ℕ) → IsHead head class
-        → further_type further.number ≡ Some further → PrintsData further.fields items octets
+        → further_type further.number ≡ Some further → AreWords further.fields items octets
         → (tokens : List Token) × IsOneEntry (words_line head further items) tokens
         × IsSome (class_word (statement_of (entry_of 1 tokens))) }
     ensures rewritten { (origin : Labels) (head : List ℕ) (class : ℕ) (further : FurtherType)
         (items : List TouchingItem) (octets : List ℕ) → IsHead head class
         → further_type further.number ≡ Some further
         → (further.in_internet_alone ≡ true → class ≡ in_class)
-        → PrintsData further.fields items octets
+        → AreWords further.fields items octets
         → IsRewriting origin (words_line head further items) (generic_line head further octets)
         [] }
 {}
