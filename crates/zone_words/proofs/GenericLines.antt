@@ -32,8 +32,10 @@ form_stands : (octets : List ℕ) → AllByRecursion StandsBehind (form octets)
 form_stands [] = (mark_stands, (plain_stands (decimal 0) (word_token (decimal 0) (some_decimal 0) (plain_decimal 0)), tt))
 form_stands (c ∷ octets) = (
   mark_stands,
-  (plain_stands (decimal (length (c ∷ octets))) (word_token (decimal (length (c ∷ octets))) (some_decimal (length (c ∷ octets))) (plain_decimal (length (c ∷ octets)))),
-   (plain_stands (encode_lower (c ∷ octets)) (word_token (encode_lower (c ∷ octets)) (hex_some c octets) (plain_hex (c ∷ octets))), tt)),
+  (
+    plain_stands (decimal (length (c ∷ octets))) (word_token (decimal (length (c ∷ octets))) (some_decimal (length (c ∷ octets))) (plain_decimal (length (c ∷ octets)))),
+    (plain_stands (encode_lower (c ∷ octets)) (word_token (encode_lower (c ∷ octets)) (hex_some c octets) (plain_hex (c ∷ octets))), tt),
+  ),
 )
 
 form_items : (octets : List ℕ) → items_of (form octets) ≡ generic_items octets
@@ -54,10 +56,11 @@ form_text number (c ∷ octets) =
 pub generic_entry : (head : List ℕ) (class : ℕ) (further : FurtherType) (octets : List ℕ) (h : IsHead head class) → (found : List Token) × IsOneEntry (generic_line head further octets) found × (flat_map item_of found ≡ raw.bare h.owner ∷ raw.bare h.ttl ∷ raw.bare h.word ∷ raw.bare (type_text further.number) ∷ generic_items octets)
 generic_entry head class further octets h =
     let stands = form_stands octets in
-    let is = type_is further.number in
-    (tokens head class (type_text further.number) (form octets) h is stands,
-     record {
-       cut = subst (λ t. Cuts t (tokens head class (type_text further.number) (form octets) h is stands)) (ap (λ t. head ++ t) (form_text further.number octets)) (line_cut head class (type_text further.number) (form octets) h is stands);
-       ended = line_ended head class (type_text further.number) (form octets) h is stands;
-     },
-     items_spelt head class (type_text further.number) (form octets) h is stands ∙ ap (λ t. raw.bare h.owner ∷ raw.bare h.ttl ∷ raw.bare h.word ∷ raw.bare (type_text further.number) ∷ t) (form_items octets))
+    let is = type_is further.number in (
+      tokens head class (type_text further.number) (form octets) h is stands,
+      record {
+        cut = subst (λ t. Cuts t (tokens head class (type_text further.number) (form octets) h is stands)) (ap (λ t. head ++ t) (form_text further.number octets)) (line_cut head class (type_text further.number) (form octets) h is stands);
+        ended = line_ended head class (type_text further.number) (form octets) h is stands;
+      },
+      items_spelt head class (type_text further.number) (form octets) h is stands ∙ ap (λ t. raw.bare h.owner ∷ raw.bare h.ttl ∷ raw.bare h.word ∷ raw.bare (type_text further.number) ∷ t) (form_items octets),
+    )

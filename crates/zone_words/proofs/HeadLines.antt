@@ -234,8 +234,10 @@ one_line (i ∷ items) s = (item_feeds i.item s.0.stands, one_line items s.1)
 module _ (head : List ℕ) (class_number : ℕ) (type_text : List ℕ) (items : List TouchingItem) (h : IsHead head class_number) (type_is : IsToken (word type_text)) (s : AllByRecursion StandsBehind items) where
   abbrev pub owner_units : List Written
   owner_units = h.owner_stands.units
+
   abbrev pub ttl_units : List Written
   ttl_units = h.ttl_stands.units
+
   abbrev pub class_units : List Written
   class_units = h.word_stands.units
 

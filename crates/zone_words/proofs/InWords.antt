@@ -49,9 +49,10 @@ and_last_too false b e = absurd (false≢true e)
 plain_each : (word : List ℕ) → list_all plain_octet word ≡ true → ArePlain word
 plain_each [] e = tt
 plain_each (c ∷ word) e =
-    let both = and_first (plain_octet c) (list_all plain_octet word) e in
-    ((not-true (ends_item c) (and_first (not (ends_item c)) (not (c == 92)) both), (λ is. (let no : (c == 92) ≡ false = not-true (c == 92) (and_last_too (not (ends_item c)) (not (c == 92)) both) in false≢true (sym no ∙ eqb-refl-of c is)))),
-     plain_each word (and_last_too (plain_octet c) (list_all plain_octet word) e))
+    let both = and_first (plain_octet c) (list_all plain_octet word) e in (
+      (not-true (ends_item c) (and_first (not (ends_item c)) (not (c == 92)) both), (λ is. (let no : (c == 92) ≡ false = not-true (c == 92) (and_last_too (not (ends_item c)) (not (c == 92)) both) in false≢true (sym no ∙ eqb-refl-of c is)))),
+      plain_each word (and_last_too (plain_octet c) (list_all plain_octet word) e),
+    )
   where
     eqb-refl-of : (c : ℕ) → c ≡ 92 → (c == 92) ≡ true
     eqb-refl-of c is = rw is refl
@@ -76,6 +77,7 @@ module _ (further : FurtherType) (row : further_type further.number ≡ Some fur
     where
       no_digit : begins_with_digit further.mnemonic ≡ false
       no_digit = not-true _ (found_each (λ (f : FurtherType). not (begins_with_digit f.mnemonic)) is_row further_types further refl row)
+
       no_class : is_class_word further.mnemonic ≡ false
       no_class = not-true _ (found_each (λ (f : FurtherType). not (is_class_word f.mnemonic)) is_row further_types further refl row)
 
@@ -95,6 +97,7 @@ owned_by (plain c ∷ units) more item items is unlike = rw (no_dollar, no_blank
   where
     no_dollar : (c == 36) ≡ false
     no_dollar = grind (arith, nat_tests)
+
     no_blank : is_blank c ≡ false
     no_blank = grind arith
 owned_by (escaped c ∷ units) more item items is unlike = refl
@@ -124,10 +127,13 @@ module _ (head : List ℕ) (class_number : ℕ) (further : FurtherType) (items :
 
   abbrev owner_text : List ℕ
   owner_text = written_text h.owner_stands.units
+
   abbrev ttl_text : List ℕ
   ttl_text = written_text h.ttl_stands.units
+
   abbrev class_text : List ℕ
   class_text = written_text h.word_stands.units
+
   abbrev type_text : List ℕ
   type_text = written_text (map plain further.mnemonic)
 
