@@ -4,7 +4,7 @@ use std::test::Fail;
 use test_support::{check_octets, check_same};
 use zone_rdata::{
     Item, Row, decimal_of, four_groups_of, ipv4_octets_of, ipv6_octets_of, is_word, number_of_word,
-    push_hex, push_string, row_named, row_of,
+    push_decimal, push_hex, push_ipv4, push_ipv6, push_string, push_string_text, row_named, row_of,
 };
 
 /// A metal by its number and its sign.
@@ -56,6 +56,34 @@ fn octets_in_hexadecimal_digits(rt: HostRuntime) -> Result<(), Fail> {
         &out,
         b"0fa9ffffffffffffffffffffffffffffffffffffffffffffffffffffffffffffffffff",
     )
+}
+
+/// RFC 2181 8.
+#[test]
+fn number_is_printed(rt: HostRuntime) -> Result<(), Fail> {
+    let mut out = Vec::new(rt.alloc());
+    push_decimal(2147483647, &mut out)?;
+    check_octets("the greatest TTL", &out, b"2147483647")
+}
+
+/// RFC 1035 3.4.1 and RFC 5952 4.2.3, whose example is 2001:db8:0:0:1:0:0:1.
+#[test]
+fn addresses_are_printed(rt: HostRuntime) -> Result<(), Fail> {
+    let mut out = Vec::new(rt.alloc());
+    push_ipv4(&[10, 0, 0, 52], &mut out)?;
+    check_octets("RFC 1035 5.3", &out, b"10.0.0.52")?;
+    out.clear();
+    let octets = [0x20, 1, 0xd, 0xb8, 0, 0, 0, 0, 0, 1, 0, 0, 0, 0, 0, 1];
+    push_ipv6(&octets, &mut out)?;
+    check_octets("the first of equal runs", &out, b"2001:db8::1:0:0:1")
+}
+
+/// RFC 1035 5.1.
+#[test]
+fn string_is_printed_in_quotes(rt: HostRuntime) -> Result<(), Fail> {
+    let mut out = Vec::new(rt.alloc());
+    push_string_text(b"a \"b\"\x07", &mut out)?;
+    check_octets("escapes", &out, b"\"a \\\"b\\\"\\007\"")
 }
 
 #[test]
