@@ -236,3 +236,28 @@ pub location_printed_stands : (items : List RawItem) (octets : List ℕ) → Pri
 location_printed_stands items octets (l, (is, (are, value))) =
     let last : List RawItem = bare (altitude_text l.altitude) ∷ bare (size_text l.size) ∷ bare (size_text l.horizontal) ∷ bare (size_text l.vertical) ∷ [] in
     subst (AllByRecursion IsPrintedItem) (sym are) (place_stands Latitude l.latitude (place_items Longitude l.longitude ++ last) is.latitude (place_stands Longitude l.longitude last is.longitude (altitude_stands (nat_lt l.altitude 10000000) l.altitude is.altitude, (size_stands l.size is.size, (size_stands l.horizontal is.horizontal, (size_stands l.vertical is.vertical, tt))))))
+
+-- ---- one text is printed
+
+fits_by : (low : Bool) (n : ℕ) → nat_lt n 2147483648 ≡ low → (if low then 2147483648 - n else n - 2147483648) ≤ 648000000 → n < 2 ^ 32
+fits_by true n e few = grind (arith, nat_tests)
+fits_by false n e few = omega arith
+
+place_fits : (axis : Axis) (n : ℕ) → IsPlace axis n → n < 2 ^ 32
+place_fits axis n is = fits_by (nat_lt n 2147483648) n refl (few_thousandths axis n is)
+
+abbrev altitude_in : List ℕ → ℕ
+altitude_in octets = from_be_bytes w32 (take 4 (drop 12 octets))
+
+same_items : (l m : Location) → IsOnEarth l → IsOnEarth m → location_octets l ≡ location_octets m → location_items l ≡ location_items m
+same_items l m p q e =
+    let latitude : l.latitude ≡ m.latitude = sym (from_be_bytes-to_be_bytes_4 l.latitude (place_fits Latitude l.latitude p.latitude)) ∙ ap latitude_in e ∙ from_be_bytes-to_be_bytes_4 m.latitude (place_fits Latitude m.latitude q.latitude) in
+    let longitude : l.longitude ≡ m.longitude = sym (from_be_bytes-to_be_bytes_4 l.longitude (place_fits Longitude l.longitude p.longitude)) ∙ ap longitude_in e ∙ from_be_bytes-to_be_bytes_4 m.longitude (place_fits Longitude m.longitude q.longitude) in
+    let altitude : l.altitude ≡ m.altitude = sym (from_be_bytes-to_be_bytes_4 l.altitude p.altitude) ∙ ap altitude_in e ∙ from_be_bytes-to_be_bytes_4 m.altitude q.altitude in
+    let size : l.size ≡ m.size = cc e in
+    let horizontal : l.horizontal ≡ m.horizontal = cc e in
+    let vertical : l.vertical ≡ m.vertical = cc e in
+    rw (latitude, longitude, altitude, size, horizontal, vertical) refl
+
+pub location_printed_once : (octets : List ℕ) (a b : List RawItem) → PrintsLocation a octets → PrintsLocation b octets → a ≡ b
+location_printed_once octets a b (l, (p, (are, value))) (m, (q, (too, other))) = are ∙ same_items l m p q (sym value ∙ other) ∙ sym too
