@@ -21,6 +21,7 @@ mod HexDigits
 mod JoinedItems
 mod LengthsBefore
 mod PassedFaults
+pub mod Printed
 mod Numbers
 mod TypeWords
 mod MnemonicOf

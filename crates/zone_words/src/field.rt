@@ -10,7 +10,7 @@ ghost use Rattle.zone_words.specs.FirstItem.{FirstFails, FirstStates};
 use crate::data_item::DataItem;
 use crate::fault::{WordsFailing, WordsFault};
 use crate::kinds::{
-    print_base64, print_certificate_type, print_eui, print_hash, print_ipv4, print_ipv6,
+    print_algorithm, print_base64, print_certificate_type, print_eui, print_hash, print_ipv4, print_ipv6,
     print_location, print_name, print_node_id, print_prefixes, print_quoted, print_salt,
     print_string, print_strings, print_tag, print_time, print_type, print_types, print_u8,
     print_u16, print_u32, read_address_type, read_algorithm, read_base64, read_certificate_type,
@@ -250,10 +250,10 @@ impl BareKind {
     /// Appends the item at the front, and gives what is left.
     fn print<'o>(self, octets: &'o [u8], out: &mut Vec<u8>) -> Result<&'o [u8], Unprinted> {
         match self {
-            // An algorithm by its number: servers differ in some mnemonics.
-            BareKind::U8 | BareKind::Algorithm => print_u8(octets, out),
+            BareKind::U8 => print_u8(octets, out),
             BareKind::U16 => print_u16(octets, out),
             BareKind::U32 => print_u32(octets, out),
+            BareKind::Algorithm => print_algorithm(octets, out),
             BareKind::CertificateType => print_certificate_type(octets, out),
             BareKind::RecordType => print_type(octets, out),
             BareKind::Time => print_time(octets, out),

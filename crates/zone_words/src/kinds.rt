@@ -49,5 +49,6 @@ pub(crate) use time::{print_time, read_time};
 pub(crate) use types::{print_types, read_perhaps_types, read_types};
 pub(crate) use value::{read_first_quoted_value, read_first_value};
 pub(crate) use word::{
-    print_certificate_type, print_type, read_algorithm, read_certificate_type, read_type,
+    print_algorithm, print_certificate_type, print_type, read_algorithm, read_certificate_type,
+    read_type,
 };

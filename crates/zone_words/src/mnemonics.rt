@@ -27,7 +27,7 @@ impl Row for Mnemonic {
 }
 
 /// The number itself, where it is that of a type that a record can have (RFC 6895 3.1).
-fn number_of_kind(number: u64) -> Option<u16>
+pub(crate) fn number_of_kind(number: u64) -> Option<u16>
     ensures found { IfSome result (λ n. (n ≡ number) × IsKind number) }
     ensures none { IfNone result (IsKind number → ⊥) }
 {

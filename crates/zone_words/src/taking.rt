@@ -25,6 +25,7 @@ pub(crate) fn take(octets: &[u8], count: usize) -> Result<(&[u8], &[u8]), Unprin
 pub(crate) fn take_u8(octets: &[u8]) -> Result<(u8, &[u8]), Unprinted>
     ensures left { IfOk result (λ parts. 1 + length parts.1.now ≡ length octets.now) }
     ensures whole { IfOk result (λ parts. octets.now ≡ parts.0 ∷ parts.1.now) }
+    ensures few { IfOk result (λ parts. parts.0 < 256) }
     ensures short { IfErr result (IfNoData (length octets.now < 1)) }
 {
     match octets {
@@ -37,6 +38,7 @@ pub(crate) fn take_u8(octets: &[u8]) -> Result<(u8, &[u8]), Unprinted>
 pub(crate) fn take_u16(octets: &[u8]) -> Result<(u16, &[u8]), Unprinted>
     ensures left { IfOk result (λ parts. 2 + length parts.1.now ≡ length octets.now) }
     ensures whole { IfOk result (λ parts. octets.now ≡ to_be_bytes w16 parts.0 ++ parts.1.now) }
+    ensures few { IfOk result (λ parts. parts.0 < 65536) }
     ensures short { IfErr result (IfNoData (length octets.now < 2)) }
 {
     match octets {
@@ -49,6 +51,7 @@ pub(crate) fn take_u16(octets: &[u8]) -> Result<(u16, &[u8]), Unprinted>
 pub(crate) fn take_u32(octets: &[u8]) -> Result<(u32, &[u8]), Unprinted>
     ensures left { IfOk result (λ parts. 4 + length parts.1.now ≡ length octets.now) }
     ensures whole { IfOk result (λ parts. octets.now ≡ to_be_bytes w32 parts.0 ++ parts.1.now) }
+    ensures few { IfOk result (λ parts. parts.0 < 4294967296) }
     ensures short { IfErr result (IfNoData (length octets.now < 4)) }
 {
     match octets {

@@ -1,5 +1,5 @@
 -- Numbers of 8, 16 and 32 bits, in decimal digits with leading zeros or not (RFC 1035 5.1).
-use Rattle.std.specs.Prelude.{◌≡◌, ℕ, List, [], ◌∷◌, Option, Some, None, if◌then◌else◌}
+use Rattle.std.specs.Prelude.{◌≡◌, ℕ, decimal, List, [], ◌∷◌, Option, Some, None, if◌then◌else◌}
 use Rattle.std.specs.List.{list_all}
 use Rattle.std.specs.Int.{Width, w8, w16, w32, to_be_bytes}
 use Rattle.zone_name.specs.Common.{NothingIs}
@@ -49,3 +49,16 @@ digits_number (c ∷ text) =
 abbrev pub stated_number : RawItem → Option ℕ
 stated_number (bare text) = digits_number text
 stated_number (quoted text) = None
+
+-- decimal digits without leading zeros are printed
+abbrev pub PrintsNumber : Width → List ℕ → List ℕ → Type 0
+PrintsNumber w text octets = IsInOctets (λ n. text ≡ decimal n) w octets
+
+abbrev pub PrintsU8 : List ℕ → List ℕ → Type 0
+PrintsU8 text octets = PrintsNumber w8 text octets
+
+abbrev pub PrintsU16 : List ℕ → List ℕ → Type 0
+PrintsU16 text octets = PrintsNumber w16 text octets
+
+abbrev pub PrintsU32 : List ℕ → List ℕ → Type 0
+PrintsU32 text octets = PrintsNumber w32 text octets

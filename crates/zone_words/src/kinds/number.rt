@@ -1,16 +1,16 @@
 //! Numbers in decimal digits (RFC 1035 5.1).
-ghost use Rattle.std.specs.Prelude.{◌≡◌, ◌≤◌, Some, IfOk, IfErr, OnOk};
+ghost use Rattle.std.specs.Prelude.{◌≡◌, ◌≤◌, ◌++◌, decimal, Some, IfOk, IfErr, OnOk};
 ghost use Rattle.std.specs.Int.{w8, w16, w32};
 ghost use Rattle.zone_words.specs.Fault.{AppendsStated, IfFault};
-ghost use Rattle.zone_words.specs.Kinds.Number.{FailsU8, FailsU16, FailsU32, StatesU8, StatesU16, StatesU32};
+ghost use Rattle.zone_words.specs.Kinds.Number.{FailsU8, FailsU16, FailsU32, PrintsU8, PrintsU16, PrintsU32, StatesU8, StatesU16, StatesU32};
 ghost use Rattle.zone_words.specs.Machine.Numbers.{FailsToFit, Fits, IsOver};
+ghost use Rattle.zone_words.specs.Printed.{IfNoData, NoFront, PrintsFront};
 
 use crate::fault::{WordsFailing, WordsFault};
 use crate::taking::{take_u8, take_u16, take_u32};
 use crate::unprinted::Unprinted;
-use itoa::Buffer;
 use std::alloc::AllocError;
-use zone_rdata::decimal_of;
+use zone_rdata::{decimal_of, push_decimal};
 
 /// Appends the number of 8 bits that decimal digits stand for.
 ///
@@ -99,28 +99,57 @@ pub(super) fn at_most(most: u32, number: Option<u64>) -> Result<u32, WordsFault>
     }
 }
 
-/// Appends a number in decimal.
-pub(crate) fn print_decimal(number: u32, out: &mut Vec<u8>) -> Result<(), AllocError> {
-    let mut digits = Buffer::new();
-    out.extend_from_slice(digits.format(number).as_bytes())
+/// Appends a number in decimal digits, without leading zeros.
+///
+/// # Errors
+///
+/// Want of memory, which leaves `out` as it was.
+pub(crate) fn print_decimal(number: u32, out: &mut Vec<u8>) -> Result<(), AllocError>
+    ensures ok { OnOk result (out.new.items ≡ out.old.items ++ decimal number) }
+{
+    push_decimal(number, out)
 }
 
-/// Appends the number of 8 bits at the front, and gives what is left.
-pub(crate) fn print_u8<'o>(octets: &'o [u8], out: &mut Vec<u8>) -> Result<&'o [u8], Unprinted> {
+/// Appends the number of 8 bits at the front in decimal digits, and gives what is left.
+///
+/// # Errors
+///
+/// `NoData` where no octet is there, and `OutOfMemory`.
+pub(crate) fn print_u8<'o>(octets: &'o [u8], out: &mut Vec<u8>) -> Result<&'o [u8], Unprinted>
+    ensures printed { IfOk result (λ rest.
+        PrintsFront PrintsU8 StatesU8 octets.now rest.now out.old.items out.new.items) }
+    ensures none { IfErr result (IfNoData (NoFront StatesU8 octets.now)) }
+{
     let (number, rest) = take_u8(octets)?;
     print_decimal(u32::from(number), out)?;
     Ok(rest)
 }
 
-/// Appends the number of 16 bits at the front, and gives what is left.
-pub(crate) fn print_u16<'o>(octets: &'o [u8], out: &mut Vec<u8>) -> Result<&'o [u8], Unprinted> {
+/// Appends the number of 16 bits at the front in decimal digits, and gives what is left.
+///
+/// # Errors
+///
+/// `NoData` where the octets end before, and `OutOfMemory`.
+pub(crate) fn print_u16<'o>(octets: &'o [u8], out: &mut Vec<u8>) -> Result<&'o [u8], Unprinted>
+    ensures printed { IfOk result (λ rest.
+        PrintsFront PrintsU16 StatesU16 octets.now rest.now out.old.items out.new.items) }
+    ensures none { IfErr result (IfNoData (NoFront StatesU16 octets.now)) }
+{
     let (number, rest) = take_u16(octets)?;
     print_decimal(u32::from(number), out)?;
     Ok(rest)
 }
 
-/// Appends the number of 32 bits at the front, and gives what is left.
-pub(crate) fn print_u32<'o>(octets: &'o [u8], out: &mut Vec<u8>) -> Result<&'o [u8], Unprinted> {
+/// Appends the number of 32 bits at the front in decimal digits, and gives what is left.
+///
+/// # Errors
+///
+/// `NoData` where the octets end before, and `OutOfMemory`.
+pub(crate) fn print_u32<'o>(octets: &'o [u8], out: &mut Vec<u8>) -> Result<&'o [u8], Unprinted>
+    ensures printed { IfOk result (λ rest.
+        PrintsFront PrintsU32 StatesU32 octets.now rest.now out.old.items out.new.items) }
+    ensures none { IfErr result (IfNoData (NoFront StatesU32 octets.now)) }
+{
     let (number, rest) = take_u32(octets)?;
     print_decimal(number, out)?;
     Ok(rest)

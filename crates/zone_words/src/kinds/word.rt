@@ -1,18 +1,19 @@
 //! Numbers in digits or by their mnemonics, and types by their words (RFC 4034 A.1, RFC 4398 2.1).
-ghost use Rattle.std.specs.Prelude.{IfErr, IfNone, IfSome, OnOk};
+ghost use Rattle.std.specs.Prelude.{◌≡◌, ◌++◌, IfErr, IfNone, IfOk, IfSome, OnOk};
 ghost use Rattle.zone_name.specs.Common.{NothingIs};
 ghost use Rattle.zone_rdata.specs.Number.{IsCapped};
 ghost use Rattle.zone_words.specs.Fault.{AppendsStated, IfFault};
-ghost use Rattle.zone_words.specs.Kinds.Word.{FailsAlgorithm, FailsCertificateType, FailsType, StatesAlgorithm, StatesCertificateType, StatesType};
+ghost use Rattle.zone_words.specs.Kinds.Word.{FailsAlgorithm, FailsCertificateType, FailsType, PrintsAlgorithm, PrintsCertificateType, PrintsType, StatesAlgorithm, StatesCertificateType, StatesType, certificate_word, type_word};
 ghost use Rattle.zone_words.specs.Mnemonics.{IsAlgorithm};
+ghost use Rattle.zone_words.specs.Printed.{IfNoData, NoFront, PrintsFront};
 
 use super::number::{print_decimal, push_one_octet, push_two_octets};
 use crate::fault::{WordsFailing, WordsFault};
 use crate::mnemonics::{
-    ALGORITHMS, CERTIFICATE_TYPES, FURTHER_ALGORITHMS, certificate_mnemonic, type_mnemonic,
-    type_of_word,
+    ALGORITHMS, CERTIFICATE_TYPES, FURTHER_ALGORITHMS, certificate_mnemonic, number_of_kind,
+    type_mnemonic, type_of_word,
 };
-use crate::taking::take_u16;
+use crate::taking::{take_u8, take_u16};
 use crate::unprinted::Unprinted;
 use std::alloc::AllocError;
 use zone_rdata::number_of_word;
@@ -77,8 +78,83 @@ pub(crate) fn read_type(word: &[u8], out: &mut Vec<u8>) -> Result<(), WordsFaili
     Ok(())
 }
 
+/// Appends the algorithm of DNSSEC at the front by its number, since servers differ in some
+/// mnemonics, and gives what is left.
+///
+/// # Errors
+///
+/// `NoData` where no octet is there, and `OutOfMemory`.
+pub(crate) fn print_algorithm<'o>(
+    octets: &'o [u8],
+    out: &mut Vec<u8>,
+) -> Result<&'o [u8], Unprinted>
+    ensures printed { IfOk result (λ rest.
+        PrintsFront PrintsAlgorithm StatesAlgorithm octets.now rest.now out.old.items
+        out.new.items) }
+    ensures none { IfErr result (IfNoData (NoFront StatesAlgorithm octets.now)) }
+{
+    let (number, rest) = take_u8(octets)?;
+    print_decimal(u32::from(number), out)?;
+    Ok(rest)
+}
+
+/// Appends the type of a certificate at the front, by its mnemonic or else in decimal (RFC 4398
+/// 2.1), and gives what is left.
+///
+/// # Errors
+///
+/// `NoData` where the octets end before, and `OutOfMemory`.
+pub(crate) fn print_certificate_type<'o>(
+    octets: &'o [u8],
+    out: &mut Vec<u8>,
+) -> Result<&'o [u8], Unprinted>
+    ensures printed { IfOk result (λ rest.
+        PrintsFront PrintsCertificateType StatesCertificateType octets.now rest.now
+        out.old.items out.new.items) }
+    ensures none { IfErr result (IfNoData (NoFront StatesCertificateType octets.now)) }
+{
+    let (number, rest) = take_u16(octets)?;
+    print_certificate_word(number, out)?;
+    Ok(rest)
+}
+
+/// Appends the mnemonic of a type of certificates, or its number.
+fn print_certificate_word(number: u16, out: &mut Vec<u8>) -> Result<(), AllocError>
+    ensures { OnOk result (out.new.items ≡ out.old.items ++ certificate_word number) }
+{
+    match certificate_mnemonic(number) {
+        Some(mnemonic) => out.extend_from_slice(mnemonic),
+        None => print_decimal(u32::from(number), out),
+    }
+}
+
+/// Appends the word of the type at the front, and gives what is left.
+///
+/// # Errors
+///
+/// `NoData` where the octets end before, or where no record can have the type (RFC 6895 3.1), and
+/// `OutOfMemory`.
+pub(crate) fn print_type<'o>(octets: &'o [u8], out: &mut Vec<u8>) -> Result<&'o [u8], Unprinted>
+    ensures printed { IfOk result (λ rest.
+        PrintsFront PrintsType StatesType octets.now rest.now out.old.items out.new.items) }
+    ensures none { IfErr result (IfNoData (NoFront StatesType octets.now)) }
+{
+    let (number, rest) = take_u16(octets)?;
+    let Some(kind) = number_of_kind(u64::from(number)) else {
+        return Err(Unprinted::NoData);
+    };
+    print_type_word(kind, out)?;
+    Ok(rest)
+}
+
 /// Appends the word of a type: its mnemonic, or TYPE and its number (RFC 3597 5).
-pub(super) fn print_type_word(number: u16, out: &mut Vec<u8>) -> Result<(), AllocError> {
+///
+/// # Errors
+///
+/// Want of memory. `out` may then have some of the word.
+pub(super) fn print_type_word(number: u16, out: &mut Vec<u8>) -> Result<(), AllocError>
+    ensures { OnOk result (out.new.items ≡ out.old.items ++ type_word number) }
+{
     match type_mnemonic(number) {
         Some(mnemonic) => out.extend_from_slice(mnemonic),
         None => {
@@ -86,25 +162,4 @@ pub(super) fn print_type_word(number: u16, out: &mut Vec<u8>) -> Result<(), Allo
             print_decimal(u32::from(number), out)
         }
     }
-}
-
-/// Appends the word of the type at the front, and gives what is left.
-pub(crate) fn print_type<'o>(octets: &'o [u8], out: &mut Vec<u8>) -> Result<&'o [u8], Unprinted> {
-    let (number, rest) = take_u16(octets)?;
-    print_type_word(number, out)?;
-    Ok(rest)
-}
-
-/// Appends the type of a certificate at the front, by its mnemonic or else in decimal (RFC 4398
-/// 2.1), and gives what is left.
-pub(crate) fn print_certificate_type<'o>(
-    octets: &'o [u8],
-    out: &mut Vec<u8>,
-) -> Result<&'o [u8], Unprinted> {
-    let (number, rest) = take_u16(octets)?;
-    match certificate_mnemonic(number) {
-        Some(mnemonic) => out.extend_from_slice(mnemonic)?,
-        None => print_decimal(u32::from(number), out)?,
-    }
-    Ok(rest)
 }

@@ -1,0 +1,3 @@
+-- What is printed, and that it states the octets.
+pub mod Fronts
+pub mod Addresses
