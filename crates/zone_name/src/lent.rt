@@ -129,8 +129,12 @@ impl<'a> NameRef<'a> {
     }
 }
 
-/// Appends a label's spelling and the dot after it.
-fn push_label<S: Sink>(label: &[u8], out: &mut S) -> Result<(), S::Error>
+/// Appends a label's spelling, its letters as they are, and the dot after it.
+///
+/// # Errors
+///
+/// `out` refuses octets. A prefix of the spelling may have been appended.
+pub fn push_label<S: Sink>(label: &[u8], out: &mut S) -> Result<(), S::Error>
     ensures ok { OnOk result (S.takes out.old (label_text label.now) out.new) }
     ensures err { OnErr result (TakesSome S.takes out.old out.new) }
 {

@@ -26,7 +26,7 @@ pub use escape::{NextUnit, decimal_escape, escape_at, next_unit};
 pub use fault::NameFault;
 pub use formatter_sink::FormatterSink;
 pub use labels::Labels;
-pub use lent::NameRef;
+pub use lent::{NameRef, push_label};
 pub use limits::{MAX_LABEL_LEN, MAX_NAME_LEN};
 pub use name::Name;
 pub use sink::{FixedBuffer, Room, Sink};

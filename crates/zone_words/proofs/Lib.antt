@@ -57,3 +57,4 @@ pub mod KnownItems
 pub mod BecomesOnce
 pub mod Moved
 pub mod Registered
+pub mod Printed

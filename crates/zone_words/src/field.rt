@@ -10,9 +10,10 @@ ghost use Rattle.zone_words.specs.FirstItem.{FirstFails, FirstStates};
 use crate::data_item::DataItem;
 use crate::fault::{WordsFailing, WordsFault};
 use crate::kinds::{
-    print_algorithm, print_base64, print_certificate_type, print_eui, print_hash, print_ipv4, print_ipv6,
-    print_location, print_name, print_node_id, print_prefixes, print_quoted, print_salt,
+    print_algorithm, print_base64_item, print_certificate_type, print_eui, print_hash, print_hex,
+    print_ipv4, print_ipv6, print_location, print_name, print_node_id, print_prefixes, print_salt,
     print_string, print_strings, print_tag, print_time, print_type, print_types, print_u8,
+    print_value_item,
     print_u16, print_u32, read_address_type, read_algorithm, read_base64, read_certificate_type,
     read_counted_digits, read_discovery, read_eui48, read_eui64, read_first_quoted_value,
     read_first_string, read_first_value, read_hash, read_hex, read_ipv4, read_ipv6, read_location,
@@ -23,7 +24,7 @@ use crate::kinds::{
 use crate::parameters::{print_parameters, read_parameters};
 use crate::unprinted::Unprinted;
 use zone_name::CasedName;
-use zone_rdata::{Item, push_hex};
+use zone_rdata::Item;
 
 /// What the text of one bare item states.
 #[derive(Clone, Copy, Debug, PartialEq, Eq)]
@@ -338,20 +339,9 @@ impl FieldKind {
     /// Appends the words of a field that all octets are, a blank before each item.
     fn print_last(self, octets: &[u8], out: &mut Vec<u8>) -> Result<(), Unprinted> {
         match self {
-            FieldKind::Value | FieldKind::QuotedValue => {
-                out.push(b' ')?;
-                print_quoted(octets, out)?;
-                Ok(())
-            }
-            FieldKind::Hex => {
-                out.push(b' ')?;
-                push_hex(octets, out)?;
-                Ok(())
-            }
-            FieldKind::Base64 => {
-                out.push(b' ')?;
-                print_base64(octets, out)
-            }
+            FieldKind::Value | FieldKind::QuotedValue => print_value_item(octets, out),
+            FieldKind::Hex => print_hex(octets, out),
+            FieldKind::Base64 => print_base64_item(octets, out),
             FieldKind::Strings => print_strings(octets, out),
             FieldKind::Types | FieldKind::PerhapsTypes => print_types(octets, out),
             FieldKind::Prefixes => print_prefixes(octets, out),

@@ -24,13 +24,13 @@ mod word;
 
 pub(crate) use address::{print_ipv4, print_ipv6, read_ipv4, read_ipv6};
 pub(crate) use base32_hex::{print_hash, read_hash};
-pub(crate) use base64_text::{print_base64, push_decoded, read_base64};
+pub(crate) use base64_text::{print_base64, print_base64_item, push_decoded, read_base64};
 pub(crate) use eui::{print_eui, read_eui48, read_eui64};
 pub(crate) use gateway::{
     print_amtrelay, print_ipseckey, read_address_type, read_discovery, read_no_address,
     read_nothing,
 };
-pub(crate) use hexadecimal::{read_counted_digits, read_hex};
+pub(crate) use hexadecimal::{print_hex, read_counted_digits, read_hex};
 pub(crate) use host_identity::{lengths_first, print_hip, read_public_key};
 pub(crate) use location::{print_location, read_location};
 pub(crate) use name::{print_name, read_name};
@@ -47,7 +47,7 @@ pub(crate) use string::{
 pub(crate) use tag::{print_tag, read_tag};
 pub(crate) use time::{print_time, read_time};
 pub(crate) use types::{print_types, read_perhaps_types, read_types};
-pub(crate) use value::{read_first_quoted_value, read_first_value};
+pub(crate) use value::{print_value_item, read_first_quoted_value, read_first_value};
 pub(crate) use word::{
     print_algorithm, print_certificate_type, print_type, read_algorithm, read_certificate_type,
     read_type,

@@ -4,7 +4,7 @@ use Rattle.base64.specs.Engines.{standard}
 use Rattle.base64.specs.GeneralPurpose.{encode_of}
 use Rattle.zone_name.specs.Common.{AreOctets}
 use Rattle.zone_rdata.specs.Item.{RawItem}
-use Rattle.zone_words.specs.Kinds.Joined.{FailsAs, StatesJoined}
+use Rattle.zone_words.specs.Kinds.Joined.{FailsAs, PrintsOneItem, StatesJoined}
 use Rattle.zone_words.specs.declared.fault.WordsFault.{WordsFault}
 use Rattle.zone_words.specs.declared.fault.WordsFault.TheVariants.{NoBase64}
 
@@ -20,3 +20,7 @@ StatesBase64 items octets = StatesJoined IsBase64 items octets
 
 abbrev pub FailsBase64 : List RawItem → WordsFault → Type 0
 FailsBase64 items fault = FailsAs NoBase64 StatesBase64 items fault
+
+-- the encoding of all octets in one item
+abbrev pub PrintsBase64 : List RawItem → List ℕ → Type 0
+PrintsBase64 items octets = PrintsOneItem IsBase64 items octets

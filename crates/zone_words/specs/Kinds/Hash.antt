@@ -1,7 +1,8 @@
 -- A hash in base32hex without padding in one item, after its length (RFC 4648 7; RFC 5155 3.3).
 use Rattle.std.specs.Prelude.{◌≡◌, ℕ, ◌+◌, ◌-◌, ◌*◌, ◌^◌, ◌<◌, List, length, fold, nat_le, ◌&&◌, if◌then◌else◌, Option, Some, None}
-use Rattle.std.specs.List.{AllZip}
+use Rattle.std.specs.List.{AllByRecursion, AllZip}
 use Rattle.zone_name.specs.Common.{AreOctets}
+use Rattle.zone_name.specs.Name.{folded_octet}
 use Rattle.zone_words.specs.Kinds.AfterLength.{FailsAfterLength, StatesAfterLength}
 use Rattle.zone_words.specs.declared.fault.WordsFault.{WordsFault}
 use Rattle.zone_words.specs.declared.fault.WordsFault.TheVariants.{NoBase32Hex}
@@ -35,3 +36,11 @@ StatesHash text octets = StatesAfterLength IsBase32Hex text octets
 
 abbrev pub FailsHash : List ℕ → WordsFault → Type 0
 FailsHash text fault = FailsAfterLength NoBase32Hex IsBase32Hex text fault
+
+-- such digits in lower case
+pub record IsLowerBase32Hex (text octets : List ℕ) : Type 0 where
+  pub is : IsBase32Hex text octets
+  pub lower : AllByRecursion (λ c. folded_octet c ≡ c) text
+
+abbrev pub PrintsHash : List ℕ → List ℕ → Type 0
+PrintsHash text octets = StatesAfterLength IsLowerBase32Hex text octets

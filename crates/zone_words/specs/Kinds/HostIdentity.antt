@@ -4,7 +4,7 @@ use Rattle.std.specs.Int.{w16, to_be_bytes}
 use Rattle.zone_name.specs.Common.{NothingIs}
 use Rattle.zone_words.specs.Kinds.AfterLength.{FailsAfterLength, StatesAfterLength}
 use Rattle.zone_words.specs.Kinds.Base64.{IsBase64}
-use Rattle.zone_words.specs.Kinds.Hex.{IsHex}
+use Rattle.zone_words.specs.Kinds.Hex.{IsHex, IsLowerHex}
 use Rattle.zone_words.specs.declared.fault.WordsFault.{WordsFault}
 use Rattle.zone_words.specs.declared.fault.WordsFault.TheVariants.{NoBase64, NoHexadecimal, TooLong}
 
@@ -26,3 +26,9 @@ pub record StatesPublicKey (text octets : List ℕ) : Type 0 where
 pub data FailsPublicKey (text : List ℕ) : WordsFault → Type 0 where
   no_key : NothingIs (IsBase64 text) → FailsPublicKey text NoBase64
   long_key : (key : List ℕ) → IsBase64 text key → 65535 < length key → FailsPublicKey text TooLong
+
+abbrev pub PrintsHostIdentityTag : List ℕ → List ℕ → Type 0
+PrintsHostIdentityTag text octets = StatesAfterLength IsLowerHex text octets
+
+abbrev pub PrintsPublicKey : List ℕ → List ℕ → Type 0
+PrintsPublicKey text octets = StatesPublicKey text octets

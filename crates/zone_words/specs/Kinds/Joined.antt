@@ -29,3 +29,8 @@ abbrev pub FailsAs : WordsFault → (List RawItem → List ℕ → Type 0) → L
     → Type 0
 FailsAs own States [] fault = fault ≡ NothingLeft
 FailsAs own States (item ∷ items) fault = NothingStated own (States (item ∷ items)) fault
+
+-- one bare item, whose text is the one that is printed for the octets
+abbrev pub PrintsOneItem : (List ℕ → List ℕ → Type 0) → List RawItem → List ℕ → Type 0
+PrintsOneItem Prints items octets =
+    (text : List ℕ) × Prints text octets × (items ≡ bare text ∷ [])

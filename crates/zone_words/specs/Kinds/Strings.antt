@@ -1,12 +1,13 @@
 -- Character-strings, each after its length (RFC 1035 3.3).
-use Rattle.std.specs.Prelude.{◌≡◌, ℕ, List, [], ◌∷◌}
+use Rattle.std.specs.Prelude.{◌≡◌, ℕ, List, [], ◌∷◌, map}
 use Rattle.std.specs.List.{flat_map}
 use Rattle.zone_name.specs.Name.{with_length}
 use Rattle.zone_rdata.specs.declared.fault.Fault.{Fault}
 use Rattle.zone_rdata.specs.declared.fault.Fault.TheVariants as faults
-use Rattle.zone_rdata.specs.Fields.Strings.{FirstStringFault, SpellsStrings}
-use Rattle.zone_rdata.specs.Spelling.{RawItem}
-use Rattle.zone_rdata.specs.Strings.{SpellsString, StringFault}
+use Rattle.zone_rdata.specs.Fields.Strings.{AreStrings, FirstStringFault, SpellsStrings}
+use Rattle.zone_rdata.specs.Item.{RawItem, quoted}
+use Rattle.zone_rdata.specs.Strings.{IsString, SpellsString, StringFault, inside_text, string_text}
+use Rattle.zone_rdata.specs.Text.{written_item}
 use Rattle.zone_words.specs.declared.fault.WordsFault.{WordsFault}
 use Rattle.zone_words.specs.declared.fault.WordsFault.TheVariants.{BadEscape, NothingLeft, StringTooLong}
 
@@ -50,3 +51,22 @@ StatesPerhaps (item ∷ items) octets = StatesString item octets
 abbrev pub FailsPerhaps : List RawItem → WordsFault → Type 0
 FailsPerhaps [] fault = ⊥
 FailsPerhaps (item ∷ items) fault = FailsString item fault
+
+-- the text is an item that is one string
+abbrev pub IsAString : List ℕ → List ℕ → Type 0
+IsAString text octets =
+    (item : RawItem) × StatesString item octets × (text ≡ written_item item)
+
+-- a string in quotes, its octets by themselves or by escapes (RFC 1035 5.1)
+pub record PrintsString (text octets : List ℕ) : Type 0 where
+  pub string : List ℕ
+  pub is : IsString string
+  pub printed : text ≡ string_text string
+  pub value : octets ≡ with_length string
+
+-- one string or more, each in quotes
+pub record PrintsStrings (items : List RawItem) (octets : List ℕ) : Type 0 where
+  pub strings : List (List ℕ)
+  pub are : AreStrings strings
+  pub printed : items ≡ map (λ string. quoted (inside_text string)) strings
+  pub value : octets ≡ flat_map with_length strings

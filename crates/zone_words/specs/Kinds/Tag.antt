@@ -23,3 +23,7 @@ StatesTag text octets = IsTag text × (octets ≡ with_length text)
 
 abbrev pub FailsTag : List ℕ → WordsFault → Type 0
 FailsTag text fault = NothingStated NotATag (StatesTag text) fault
+
+-- the letters and digits as they stand
+abbrev pub PrintsTag : List ℕ → List ℕ → Type 0
+PrintsTag text octets = StatesTag text octets

@@ -1,7 +1,10 @@
-ghost use Rattle.std.specs.Prelude.{map, IfErr, OnOk};
+ghost use Rattle.base64.specs.Engines.{standard};
+ghost use Rattle.base64.specs.GeneralPurpose.{encode_of};
+ghost use Rattle.std.specs.Prelude.{◌≡◌, ◌++◌, map, IfErr, OnOk};
 ghost use Rattle.zone_words.specs.DataItem.{raw_item};
 ghost use Rattle.zone_words.specs.Fault.{AppendsStated, IfFault, NothingStated};
-ghost use Rattle.zone_words.specs.Kinds.Base64.{FailsBase64, IsBase64, StatesBase64};
+ghost use Rattle.zone_words.specs.Kinds.Base64.{FailsBase64, IsBase64, PrintsBase64, StatesBase64};
+ghost use Rattle.zone_words.specs.Printed.{IfNoData, NoItems, PrintsAll};
 ghost use Rattle.zone_words.specs.declared.fault.WordsFault.TheVariants.{NoBase64};
 
 use super::joined::joined_text;
@@ -44,19 +47,36 @@ pub(crate) fn push_decoded(text: &[u8], out: &mut Vec<u8>) -> Result<(), WordsFa
     }
 }
 
-/// The most octets of data (RFC 1035 3.2.1).
-const MOST: usize = 65_535;
-
 /// Appends octets in base64 (RFC 4648 4).
-pub(crate) fn print_base64(octets: &[u8], out: &mut Vec<u8>) -> Result<(), Unprinted> {
-    if octets.len() > MOST {
+///
+/// # Errors
+///
+/// Want of memory, and `out` is unchanged.
+pub(crate) fn print_base64(octets: &[u8], out: &mut Vec<u8>) -> Result<(), Unprinted>
+    ensures printed { OnOk result
+        (out.new.items ≡ out.old.items ++ encode_of standard octets.now) }
+    ensures err { IfErr result (IfNoData ⊥) }
+{
+    let before = out.len();
+    out.resize(before.saturating_add(octets.len().div_ceil(3) * 4), 0)?;
+    let (_, room) = out.as_mut_slice().split_at_mut(before);
+    let _ = STANDARD.encode_slice(octets, room);
+    Ok(())
+}
+
+/// Appends octets as one item of base64, after a blank (RFC 4648 4).
+///
+/// # Errors
+///
+/// `NoData` where there is no octet, and want of memory. `out` may have got the blank.
+pub(crate) fn print_base64_item(octets: &[u8], out: &mut Vec<u8>) -> Result<(), Unprinted>
+    ensures printed { OnOk result
+        (PrintsAll PrintsBase64 octets.now out.old.items out.new.items) }
+    ensures none { IfErr result (IfNoData (NoItems StatesBase64 octets.now)) }
+{
+    if octets.is_empty() {
         return Err(Unprinted::NoData);
     }
-    let before = out.len();
-    out.resize(before + octets.len().div_ceil(3) * 4, 0)?;
-    let (_, room) = out.as_mut_slice().split_at_mut(before);
-    match STANDARD.encode_slice(octets, room) {
-        Ok(_) => Ok(()),
-        Err(_) => Err(Unprinted::NoData),
-    }
+    out.push(b' ')?;
+    print_base64(octets, out)
 }

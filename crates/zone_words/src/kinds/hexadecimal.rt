@@ -2,13 +2,16 @@ ghost use Rattle.std.specs.Prelude.{map, IfErr, OnOk};
 ghost use Rattle.zone_words.specs.DataItem.{raw_item};
 ghost use Rattle.zone_words.specs.Fault.{AppendsStated, IfFault, NothingStated};
 ghost use Rattle.zone_words.specs.Kinds.AfterLength.{FailsAfterLength, StatesAfterLength};
-ghost use Rattle.zone_words.specs.Kinds.Hex.{FailsHex, IsHex, StatesHex};
+ghost use Rattle.zone_words.specs.Kinds.Hex.{FailsHex, IsHex, PrintsHex, StatesHex};
+ghost use Rattle.zone_words.specs.Printed.{IfNoData, NoItems, PrintsAll};
 ghost use Rattle.zone_words.specs.declared.fault.WordsFault.TheVariants.{NoHexadecimal};
 
 use super::joined::joined_text;
 use crate::data_item::DataItem;
 use crate::fault::{WordsFailing, WordsFault};
+use crate::unprinted::Unprinted;
 use hex::decode_to_slice;
+use zone_rdata::push_hex;
 
 /// Appends the octets, one or more, that hexadecimal digits stand for, in one item or more (RFC
 /// 4648 8). The digits of an octet may be parted between items, as by any white space (RFC 4034
@@ -63,4 +66,22 @@ pub(super) fn read_digits(text: &[u8], out: &mut Vec<u8>) -> Result<(), WordsFai
     out.resize(before + text.len() / 2, 0)?;
     let (_, room) = out.as_mut_slice().split_at_mut(before);
     decode_to_slice(text, room).map_err(|_| WordsFailing::Fault(WordsFault::NoHexadecimal))
+}
+
+/// Appends octets as one item of hexadecimal digits, after a blank (RFC 4648 8).
+///
+/// # Errors
+///
+/// `NoData` where there is no octet, and want of memory. `out` may have got some of the digits.
+pub(crate) fn print_hex(octets: &[u8], out: &mut Vec<u8>) -> Result<(), Unprinted>
+    ensures printed { OnOk result
+        (PrintsAll PrintsHex octets.now out.old.items out.new.items) }
+    ensures none { IfErr result (IfNoData (NoItems StatesHex octets.now)) }
+{
+    if octets.is_empty() {
+        return Err(Unprinted::NoData);
+    }
+    out.push(b' ')?;
+    push_hex(octets, out)?;
+    Ok(())
 }

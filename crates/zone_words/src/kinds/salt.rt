@@ -1,6 +1,7 @@
-ghost use Rattle.std.specs.Prelude.{IfErr, OnOk};
+ghost use Rattle.std.specs.Prelude.{IfErr, IfOk, OnOk};
 ghost use Rattle.zone_words.specs.Fault.{AppendsStated, IfFault};
-ghost use Rattle.zone_words.specs.Kinds.Salt.{FailsSalt, StatesSalt};
+ghost use Rattle.zone_words.specs.Kinds.Salt.{FailsSalt, PrintsSalt, StatesSalt};
+ghost use Rattle.zone_words.specs.Printed.{IfNoData, NoFront, PrintsFront};
 
 use super::hexadecimal::read_counted_digits;
 use crate::fault::WordsFailing;
@@ -27,10 +28,19 @@ pub(crate) fn read_salt(text: &[u8], out: &mut Vec<u8>) -> Result<(), WordsFaili
 
 /// Appends the salt at the front, `-` for one without octets (RFC 5155 3.3), and gives what is
 /// left.
-pub(crate) fn print_salt<'o>(octets: &'o [u8], out: &mut Vec<u8>) -> Result<&'o [u8], Unprinted> {
+///
+/// # Errors
+///
+/// `NoData` where no salt stands at the front, and want of memory. `out` may have got some of it.
+pub(crate) fn print_salt<'o>(octets: &'o [u8], out: &mut Vec<u8>) -> Result<&'o [u8], Unprinted>
+    ensures printed { IfOk result (λ rest.
+        PrintsFront PrintsSalt StatesSalt octets.now rest.now out.old.items out.new.items) }
+    ensures none { IfErr result (IfNoData (NoFront StatesSalt octets.now)) }
+{
     let (salt, rest) = take_counted(octets)?;
     if salt.is_empty() {
         out.extend_from_slice(b"-")?;
+        return Ok(rest);
     }
     push_hex(salt, out)?;
     Ok(rest)

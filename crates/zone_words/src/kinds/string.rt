@@ -1,12 +1,13 @@
 //! Character-strings, each after its length (RFC 1035 3.3).
-ghost use Rattle.std.specs.Prelude.{◌≡◌, map, IfErr, OnOk};
+ghost use Rattle.std.specs.Prelude.{◌≡◌, ◌<◌, ◌++◌, length, map, IfErr, IfOk, OnOk};
 ghost use Rattle.zone_rdata.specs.Item.{raw};
+ghost use Rattle.zone_rdata.specs.Strings.{string_text, unit_text};
 ghost use Rattle.zone_words.specs.DataItem.{raw_item};
 ghost use Rattle.zone_words.specs.Fault.{AppendsStated, IfFault};
 ghost use Rattle.zone_words.specs.FirstItem.{FirstFails, FirstStates};
-ghost use Rattle.zone_words.specs.Kinds.Strings.{FailsPerhaps, FailsString, FailsStrings, StatesPerhaps, StatesString, StatesStrings};
+ghost use Rattle.zone_words.specs.Kinds.Strings.{FailsPerhaps, FailsString, FailsStrings, IsAString, PrintsString, PrintsStrings, StatesPerhaps, StatesString, StatesStrings};
 ghost use Rattle.zone_words.specs.Machine.Strings.{failing_of_string};
-ghost use Rattle.std.specs.Prelude.{◌<◌, IfOk, length};
+ghost use Rattle.zone_words.specs.Printed.{IfNoData, NoFront, NoItems, PrintsAll, PrintsFront};
 
 use crate::data_item::DataItem;
 use crate::fault::{WordsFailing, WordsFault};
@@ -14,7 +15,7 @@ use crate::taking::take_counted;
 use crate::unprinted::Unprinted;
 use std::alloc::AllocError;
 use zone_name::decimal_escape;
-use zone_rdata::{Failing, Fault, Item, NarrowFailing};
+use zone_rdata::{Failing, Fault, Item, NarrowFailing, push_string_text};
 
 /// Appends the string that an item is, after its length.
 ///
@@ -97,7 +98,9 @@ fn failing_of(failing: NarrowFailing) -> WordsFailing
 }
 
 /// Appends an octet between quotes (RFC 1035 5.1).
-pub(crate) fn print_unit(octet: u8, out: &mut Vec<u8>) -> Result<(), AllocError> {
+pub(crate) fn print_unit(octet: u8, out: &mut Vec<u8>) -> Result<(), AllocError>
+    ensures ok { OnOk result (out.new.items ≡ out.old.items ++ unit_text octet) }
+{
     match octet {
         b'"' | b'\\' => out.extend_from_slice(&[b'\\', octet]),
         b' '..=b'~' => out.extend_from_slice(&[octet]),
@@ -106,25 +109,41 @@ pub(crate) fn print_unit(octet: u8, out: &mut Vec<u8>) -> Result<(), AllocError>
 }
 
 /// Appends octets in quotes.
-pub(crate) fn print_quoted(octets: &[u8], out: &mut Vec<u8>) -> Result<(), AllocError> {
-    out.extend_from_slice(b"\"")?;
-    for octet in octets {
-        print_unit(*octet, out)?;
-    }
-    out.extend_from_slice(b"\"")
+pub(crate) fn print_quoted(octets: &[u8], out: &mut Vec<u8>) -> Result<(), AllocError>
+    ensures ok { OnOk result (out.new.items ≡ out.old.items ++ string_text octets.now) }
+{
+    push_string_text(octets, out)
 }
 
 /// Appends the character-string at the front, in quotes, and gives what is left.
+///
+/// # Errors
+///
+/// `NoData` where none stands at the front, and want of memory. `out` may have got some of it.
 pub(crate) fn print_string<'o>(octets: &'o [u8], out: &mut Vec<u8>) -> Result<&'o [u8], Unprinted>
-    ensures { IfOk result (λ rest. length rest.now < length octets.now) }
+    ensures left { IfOk result (λ rest. length rest.now < length octets.now) }
+    ensures printed { IfOk result (λ rest.
+        PrintsFront PrintsString IsAString octets.now rest.now out.old.items out.new.items) }
+    ensures none { IfErr result (IfNoData (NoFront IsAString octets.now)) }
 {
     let (string, rest) = take_counted(octets)?;
     print_quoted(string, out)?;
     Ok(rest)
 }
 
-/// Appends character-strings, a blank before each.
-pub(crate) fn print_strings(octets: &[u8], out: &mut Vec<u8>) -> Result<(), Unprinted> {
+/// Appends character-strings in quotes, one or more, a blank before each.
+///
+/// # Errors
+///
+/// `NoData` where the octets are none, and want of memory. `out` may have got some of them.
+pub(crate) fn print_strings(octets: &[u8], out: &mut Vec<u8>) -> Result<(), Unprinted>
+    ensures printed { OnOk result
+        (PrintsAll PrintsStrings octets.now out.old.items out.new.items) }
+    ensures none { IfErr result (IfNoData (NoItems StatesStrings octets.now)) }
+{
+    if octets.is_empty() {
+        return Err(Unprinted::NoData);
+    }
     let mut rest = octets;
     while !rest.is_empty() {
         out.extend_from_slice(b" ")?;

@@ -1,8 +1,9 @@
 //! Tags of properties of certification authorities (RFC 8659 4.1).
-ghost use Rattle.std.specs.Prelude.{◌≡◌, ◌↔◌, true, IsTrue, IfErr, OnOk};
+ghost use Rattle.std.specs.Prelude.{◌≡◌, ◌↔◌, true, IsTrue, IfErr, IfOk, OnOk};
 ghost use Rattle.std.specs.List.{AllByRecursion};
 ghost use Rattle.zone_words.specs.Fault.{AppendsStated, IfFault};
-ghost use Rattle.zone_words.specs.Kinds.Tag.{FailsTag, IsTag, StatesTag, is_letter_or_digit};
+ghost use Rattle.zone_words.specs.Kinds.Tag.{FailsTag, IsTag, PrintsTag, StatesTag, is_letter_or_digit};
+ghost use Rattle.zone_words.specs.Printed.{IfNoData, NoFront, PrintsFront};
 
 use crate::fault::{WordsFailing, WordsFault};
 use crate::taking::take_counted;
@@ -46,8 +47,19 @@ fn are_letters_and_digits(text: &[u8]) -> bool
 }
 
 /// Appends the letters and digits at the front as they are (RFC 8659 4.1), and gives what is left.
-pub(crate) fn print_tag<'o>(octets: &'o [u8], out: &mut Vec<u8>) -> Result<&'o [u8], Unprinted> {
+///
+/// # Errors
+///
+/// `NoData` where no tag stands at the front, and want of memory. `out` may have got some of it.
+pub(crate) fn print_tag<'o>(octets: &'o [u8], out: &mut Vec<u8>) -> Result<&'o [u8], Unprinted>
+    ensures printed { IfOk result (λ rest.
+        PrintsFront PrintsTag StatesTag octets.now rest.now out.old.items out.new.items) }
+    ensures none { IfErr result (IfNoData (NoFront StatesTag octets.now)) }
+{
     let (tag, rest) = take_counted(octets)?;
+    if !is_tag(tag) {
+        return Err(Unprinted::NoData);
+    }
     out.extend_from_slice(tag)?;
     Ok(rest)
 }

@@ -4,11 +4,14 @@ ghost use Rattle.zone_rdata.specs.Item.{raw};
 ghost use Rattle.zone_words.specs.DataItem.{raw_item};
 ghost use Rattle.zone_words.specs.Fault.{AppendsStated, IfFault};
 ghost use Rattle.zone_words.specs.FirstItem.{FirstFails, FirstStates};
-ghost use Rattle.zone_words.specs.Kinds.Value.{FailsQuotedValue, FailsValue, StatesQuotedValue, StatesValue};
+ghost use Rattle.zone_words.specs.Kinds.Value.{FailsQuotedValue, FailsValue, PrintsValue, StatesQuotedValue, StatesValue};
+ghost use Rattle.zone_words.specs.Printed.{IfNoData, PrintsAll};
 
+use super::string::print_quoted;
 use crate::data_item::DataItem;
 use crate::fault::{WordsFailing, WordsFault};
 use crate::unescaped::push_unescaped;
+use crate::unprinted::Unprinted;
 use zone_rdata::Item;
 
 /// Appends the value that the first item is, bare or quoted, its escapes undone.
@@ -80,4 +83,19 @@ fn read_quoted_value(item: Item, out: &mut Vec<u8>) -> Result<(), WordsFailing>
         Item::Bare(_) => Err(WordsFailing::Fault(WordsFault::NotQuoted)),
         Item::Quoted(text) => push_unescaped(text, out),
     }
+}
+
+/// Appends octets as one item in quotes, after a blank (RFC 1035 5.1).
+///
+/// # Errors
+///
+/// Want of memory. `out` may have got some of the item.
+pub(crate) fn print_value_item(octets: &[u8], out: &mut Vec<u8>) -> Result<(), Unprinted>
+    ensures printed { OnOk result
+        (PrintsAll PrintsValue octets.now out.old.items out.new.items) }
+    ensures none { IfErr result (IfNoData ⊥) }
+{
+    out.push(b' ')?;
+    print_quoted(octets, out)?;
+    Ok(())
 }
