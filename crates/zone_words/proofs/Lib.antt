@@ -57,4 +57,3 @@ pub mod KnownItems
 pub mod BecomesOnce
 pub mod Moved
 pub mod Registered
-pub mod Printed

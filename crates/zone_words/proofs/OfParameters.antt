@@ -17,3 +17,5 @@ pub mod PrintedProtocols
 pub mod SentOctets
 pub mod PrintedKeys
 pub mod Stops
+pub mod PrintedValues
+pub mod EachPrinted

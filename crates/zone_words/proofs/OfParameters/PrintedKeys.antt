@@ -1,10 +1,11 @@
 -- Keys that have to be there, as they are printed.
-use Rattle.zone_words.proofs.Common.{AllByRecursion, Ascend, AscendAbove, List, Sent, [], ap, append-nil, append_assoc, append_cancel_left, arith, drop, flat_map, get_or, inl, inr, join_with_byte, length, map, refl, subst, suc, sym, to_be_bytes, w16, ℕ, ◌++◌, ◌<◌, ◌^◌, ◌∙◌, ◌∷◌, ◌≡◌, ◌≢◌}
+use Rattle.zone_words.proofs.Common.{AllByRecursion, Ascend, AscendAbove, List, Sent, [], ap, append-nil, append_assoc, append_cancel_left, arith, drop, drop_more, flat_map, get_or, inl, inr, join_with_byte, length, map, refl, subst, suc, sym, to_be_bytes, w16, ℕ, ◌++◌, ◌+◌, ◌<◌, ◌^◌, ◌∙◌, ◌∷◌, ◌≡◌, ◌≢◌}
 use Rattle.std.proofs.lemmas.Nat.{from_be_bytes-to_be_bytes_2}
 use Rattle.zone_words.proofs.OfParameters.Marked.{AreMarked, more_marked, same_parts}
-use Rattle.zone_words.specs.Machine.PrintedParameters.{AppendsUnquoted, AreKeys, key_texts, marked, numbers_in}
+use Rattle.zone_words.specs.Machine.PrintedParameters.{AppendsUnquoted, AreKeys, IsAfterKey, all_sent, key_texts, marked, numbers_in, sent_of, stays, taken}
 use Rattle.zone_words.specs.Parameters.Keys.{key_text}
 use Rattle.zone_words.specs.Parameters.Printed.{IsAmong, PrintsKeys, usual_key}
+use Rattle.zone_words.specs.declared.parameters.printing.sent.Parameter.{Parameter}
 
 abbrev pub text_of_key : ℕ → List ℕ
 text_of_key number = key_text (usual_key number)
@@ -121,6 +122,16 @@ key_skipped all left s keys wanted other have = record {
   back = λ are. have.back (record { ascend = are.ascend; there = with_first s left (numbers_in wanted) are.there; value = are.value });
   on = λ are. (let on = have.on are in record { ascend = on.ascend; there = skipped s left (numbers_in wanted) have.ascend other on.ascend on.there; value = on.value });
 }
+
+-- ---- the next parameter
+
+next_by : (all left : List Sent) (s : Sent) (keys wanted after : List ℕ) → IsAfterKey s.number wanted after → AreLeft all (s ∷ left) keys wanted → AreLeft all left keys after
+next_by all left s keys wanted after (taken split small some) have = key_found s left wanted after s.number have.ascend split small refl some all keys have
+next_by all left s keys wanted after (stays same unlike) have = subst (AreLeft all left keys) (sym same) (key_skipped all left s keys wanted unlike have)
+
+pub next_left : (parameters : List Parameter) (i : ℕ) (d : Parameter) (keys wanted after : List ℕ) → i < length parameters → IsAfterKey (get_or parameters i d).key wanted after → AreLeft (all_sent parameters) (all_sent (drop i parameters)) keys wanted → AreLeft (all_sent parameters) (all_sent (drop (i + 1) parameters)) keys after
+next_left parameters i d keys wanted after inside is have =
+    next_by (all_sent parameters) (all_sent (drop (i + 1) parameters)) (sent_of (get_or parameters i d)) keys wanted after is (subst (λ t. AreLeft (all_sent parameters) t keys wanted) (ap all_sent (drop_more parameters i d inside)) have)
 
 none_wanted : (numbers wanted : List ℕ) → AllByRecursion (IsAmong []) numbers → wanted ≡ flat_map (to_be_bytes w16) numbers → wanted ≡ []
 none_wanted [] wanted there value = value

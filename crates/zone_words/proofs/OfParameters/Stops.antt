@@ -6,7 +6,7 @@ use Rattle.zone_words.specs.Printed.{IfNoData}
 use Rattle.zone_words.specs.declared.unprinted.Unprinted.{Unprinted}
 use Rattle.zone_words.specs.declared.unprinted.Unprinted.TheVariants as answers
 
-if_no_data : (e : Unprinted) (P Q : Type 0) → (P → Q) → IfNoData P e → IfNoData Q e
+pub if_no_data : (e : Unprinted) (P Q : Type 0) → (P → Q) → IfNoData P e → IfNoData Q e
 if_no_data answers.NoData P Q goes h = goes h
 if_no_data answers.OutOfMemory P Q goes h = tt
 

@@ -1,5 +1,5 @@
 -- How the code prints parameters.
-use Rattle.std.specs.Prelude.{◌≡◌, ℕ, ◌<◌, ◌^◌, ◌+◌, ◌*◌, List, [], ◌∷◌, ◌++◌, length, map}
+use Rattle.std.specs.Prelude.{◌≡◌, ◌≢◌, ℕ, ◌<◌, ◌^◌, List, [], ◌∷◌, ◌++◌, length, map}
 use Rattle.std.specs.Int.{from_be_bytes, to_be_bytes, w16}
 use Rattle.std.specs.List.{AllByRecursion, AllZip, flat_map, join_with_byte}
 use Rattle.zone_name.specs.Common.{AreOctets}
@@ -106,6 +106,13 @@ NoProtocols octets = (protocols : List (List ℕ)) → AreProtocols protocols oc
 abbrev pub numbers_in : List ℕ → List ℕ
 numbers_in (high ∷ low ∷ octets) = from_be_bytes w16 (high ∷ low ∷ []) ∷ numbers_in octets
 numbers_in octets = []
+
+-- a key that isn't 0 is taken from the front of others, where it stands there
+pub data IsAfterKey (key : ℕ) (keys left : List ℕ) : Type 0 where
+  taken : keys ≡ to_be_bytes w16 key ++ left → key < 2 ^ 16 → key ≢ 0 → IsAfterKey key keys left
+  stays : left ≡ keys
+      → ((n : ℕ) (more : List ℕ) → numbers_in keys ≡ n ∷ more → n ≡ key → n ≡ 0)
+      → IsAfterKey key keys left
 
 abbrev pub key_texts : List ℕ → List (List ℕ)
 key_texts numbers = map (λ number. key_text (usual_key number)) numbers

@@ -18,6 +18,7 @@ use key::{print_key, usual_key};
 use sent::{Parameter, parameters_of};
 use std::alloc::AllocError;
 use value::{print_opaque, print_value};
+use zone_name::laws::are_octets;
 
 /// Appends the parameters that all octets are: each after a blank, in the order of the octets, by
 /// the name of its key where its value is one of that key, and else by the number of its key with
@@ -32,6 +33,7 @@ pub(crate) fn print_parameters(octets: &[u8], out: &mut Vec<u8>) -> Result<(), U
         (PrintsTouching PrintsParameters octets.now out.old.items out.new.items) }
     ensures none { IfErr result (IfNoData (NoParameters octets.now)) }
 {
+    are_octets(octets);
     let parameters = parameters_of(*out.allocator(), octets)?;
     print_each(parameters.as_slice(), out)?;
     Ok(())
@@ -61,8 +63,9 @@ fn print_parameter(
 {
     let before = out.len();
     out.extend_from_slice(b" ")?;
-    print_key(usual_key(parameter.key), out)?;
-    match print_value(usual_key(parameter.key), parameter.value, parameters, out) {
+    let key = usual_key(parameter.key);
+    print_key(key, out)?;
+    match print_value(key, parameter.value, parameters, out) {
         Ok(()) => Ok(()),
         Err(Unprinted::OutOfMemory) => Err(AllocError),
         Err(Unprinted::NoData) => {

@@ -1,6 +1,6 @@
 ghost use Rattle.std.specs.Prelude.{◌≡◌, ◌<◌, ◌^◌, ◌++◌, ◌∷◌, [], length, true, IfErr, IfNone, IfSome, OnOk};
 ghost use Rattle.std.specs.Int.{to_be_bytes, w16};
-ghost use Rattle.zone_words.specs.Machine.PrintedParameters.{AppendsUnquoted, AreKeys, StopsAs, all_sent, key_texts, marked, numbers_in};
+ghost use Rattle.zone_words.specs.Machine.PrintedParameters.{AppendsUnquoted, AreKeys, IsAfterKey, StopsAs, all_sent, key_texts, marked, numbers_in};
 ghost use Rattle.zone_words.specs.Parameters.{Ascend};
 ghost use Rattle.zone_words.specs.Parameters.Printed.{PrintsKeys};
 ghost use Rattle.zone_words.specs.Printed.{IfNoData};
@@ -22,6 +22,19 @@ fn next_key(keys: &[u8]) -> Option<(u16, &[u8])>
     }
 }
 
+/// What is left of keys where the first is this one, and isn't 0; else all of them.
+fn after_key(key: u16, keys: &[u8]) -> &[u8]
+    ensures { IsAfterKey key keys.now result.now }
+{
+    let Some((first, rest)) = next_key(keys) else {
+        return keys;
+    };
+    if first != key || key == 0 {
+        return keys;
+    }
+    rest
+}
+
 /// Whether these are the numbers of keys in ascending order, none of them 0, and each that of a
 /// parameter.
 fn are_there(keys: &[u8], parameters: &[Parameter]) -> bool
@@ -31,12 +44,7 @@ fn are_there(keys: &[u8], parameters: &[Parameter]) -> bool
 {
     let mut wanted = keys;
     for parameter in parameters {
-        if let Some((key, rest)) = next_key(wanted)
-            && key == parameter.key
-            && key != 0
-        {
-            wanted = rest;
-        }
+        wanted = after_key(parameter.key, wanted);
     }
     wanted.is_empty()
 }
