@@ -52,7 +52,6 @@ pub mod Scaled
 pub mod Places
 mod PlaceChoices
 pub mod Locations
-pub mod Printed
 pub mod KeptRecords
 pub mod Turns
 pub mod KnownItems
@@ -62,4 +61,3 @@ pub mod Registered
 mod HeadLines
 mod InWords
 mod GenericLines
-pub mod Printed

@@ -11,3 +11,11 @@ pub mod Values
 pub mod Reading
 pub mod Once
 pub mod OneFault
+pub mod Marked
+pub mod PrintedAddresses
+pub mod PrintedProtocols
+pub mod SentOctets
+pub mod PrintedKeys
+pub mod Stops
+pub mod PrintedValues
+pub mod EachPrinted

@@ -12,6 +12,7 @@ pub mod Further
 pub mod Turn
 pub mod Pairs
 pub mod Parameters
+pub mod PrintedParameters
 pub mod Stated
 pub mod Cuts
 pub mod Prefixes

@@ -13,6 +13,7 @@ use Rattle.zone_words.specs.declared.parameters.key.Key.{Key}
 pub mod Keys
 pub mod Text
 pub mod Value
+pub mod Printed
 
 -- the number of a key, the octets of its value, and the keys that it requires
 pub record Parameter : Type 0 where

@@ -1,72 +1,78 @@
-//! The parameters of a service (RFC 9460 2.1).
-ghost use Rattle.std.specs.Prelude.{◌<◌, IfOk, length};
-
+//! The parameters of a service as they are printed (RFC 9460 2.1).
+mod addresses;
 mod key;
 mod mandatory;
 mod protocols;
+mod sent;
 mod value;
 
-use crate::kinds::print_quoted;
-use crate::taking::{take, take_u16};
+ghost use Rattle.std.specs.Prelude.{IfErr, OnOk};
+ghost use Rattle.zone_words.specs.Machine.PrintedParameters.{AppendsParameter, AppendsParameters, all_sent, sent_of};
+ghost use Rattle.zone_words.specs.Parameters.{Ascend};
+ghost use Rattle.zone_words.specs.Parameters.Printed.{NoParameters, PrintsParameters, PrintsTouching};
+ghost use Rattle.zone_words.specs.Printed.{IfNoData};
+
+use super::key::Key;
 use crate::unprinted::Unprinted;
-use key::{print_key, print_key_number};
+use key::{print_key, usual_key};
+use sent::{Parameter, parameters_of};
 use std::alloc::AllocError;
-use value::print_value;
+use value::{print_opaque, print_value};
+use zone_name::laws::are_octets;
 
-/// A parameter: the number of its key, and the octets of its value (RFC 9460 2.2).
-#[derive(Clone, Copy)]
-struct Parameter<'o> {
-    key: u16,
-    value: &'o [u8],
-}
-
-/// The parameter at the front, and what is left.
-fn take_parameter(octets: &[u8]) -> Result<(Parameter<'_>, &[u8]), Unprinted>
-    ensures { IfOk result (λ parts. length parts.1.now < length octets.now) }
+/// Appends the parameters that all octets are: each after a blank, in the order of the octets, by
+/// the name of its key where its value is one of that key, and else by the number of its key with
+/// its value as opaque octets.
+///
+/// # Errors
+///
+/// `NoData` where the octets aren't parameters whose keys ascend (RFC 9460 2.2), and want of
+/// memory. Some of the text may have been appended.
+pub(crate) fn print_parameters(octets: &[u8], out: &mut Vec<u8>) -> Result<(), Unprinted>
+    ensures printed { OnOk result
+        (PrintsTouching PrintsParameters octets.now out.old.items out.new.items) }
+    ensures none { IfErr result (IfNoData (NoParameters octets.now)) }
 {
-    let (key, rest) = take_u16(octets)?;
-    let (len, rest) = take_u16(rest)?;
-    let (value, rest) = take(rest, usize::from(len))?;
-    Ok((Parameter { key, value }, rest))
+    are_octets(octets);
+    let parameters = parameters_of(*out.allocator(), octets)?;
+    print_each(parameters.as_slice(), out)?;
+    Ok(())
 }
 
-/// Appends parameters, a blank before each.
-pub(crate) fn print_parameters(octets: &[u8], out: &mut Vec<u8>) -> Result<(), Unprinted> {
-    let mut rest = octets;
-    while !rest.is_empty() {
-        let (parameter, after) = take_parameter(rest)?;
-        out.extend_from_slice(b" ")?;
-        print_parameter(parameter, after, out)?;
-        rest = after;
+/// Appends parameters, each after a blank.
+fn print_each(parameters: &[Parameter], out: &mut Vec<u8>) -> Result<(), AllocError>
+    requires { Ascend (all_sent parameters.now) }
+    ensures { OnOk result
+        (AppendsParameters (all_sent parameters.now) out.old.items out.new.items) }
+{
+    for parameter in parameters {
+        print_parameter(*parameter, parameters, out)?;
     }
     Ok(())
 }
 
-/// Appends a parameter, which these follow: as opaque octets where its value isn't one of its key.
-fn print_parameter(parameter: Parameter, after: &[u8], out: &mut Vec<u8>) -> Result<(), Unprinted> {
+/// Appends one of the parameters, after a blank.
+fn print_parameter(
+    parameter: Parameter,
+    parameters: &[Parameter],
+    out: &mut Vec<u8>,
+) -> Result<(), AllocError>
+    requires { Ascend (all_sent parameters.now) }
+    ensures { OnOk result (AppendsParameter (all_sent parameters.now) (sent_of parameter.entry)
+        out.old.items out.new.items) }
+{
     let before = out.len();
-    match print_named(parameter, after, out) {
+    out.extend_from_slice(b" ")?;
+    let key = usual_key(parameter.key);
+    print_key(key, out)?;
+    match print_value(key, parameter.value, parameters, out) {
+        Ok(()) => Ok(()),
+        Err(Unprinted::OutOfMemory) => Err(AllocError),
         Err(Unprinted::NoData) => {
             out.truncate(before);
-            print_opaque(parameter, out)?;
-            Ok(())
+            out.extend_from_slice(b" ")?;
+            print_key(Key::Numbered(parameter.key), out)?;
+            print_opaque(parameter.value, out)
         }
-        answer => answer,
     }
-}
-
-/// Appends a parameter by the name of its key.
-fn print_named(parameter: Parameter, after: &[u8], out: &mut Vec<u8>) -> Result<(), Unprinted> {
-    print_key(parameter.key, out)?;
-    print_value(parameter, after, out)
-}
-
-/// Appends a parameter by the number of its key, its value as opaque octets.
-fn print_opaque(parameter: Parameter, out: &mut Vec<u8>) -> Result<(), AllocError> {
-    print_key_number(parameter.key, out)?;
-    if parameter.value.is_empty() {
-        return Ok(());
-    }
-    out.extend_from_slice(b"=")?;
-    print_quoted(parameter.value, out)
 }

@@ -1,5 +1,9 @@
-use Rattle.std.proofs.Common.{length}
+use Rattle.zone_words.proofs.Common.{length}
+use Rattle.zone_words.proofs.OfParameters.PrintedProtocols.{HasPrinted}
 use Rattle.zone_words.proofs.parameters.printing.protocols.print_protocols.Given as goal
 
-abbrev pub decreases-loop-rest : goal.decreases-loop-rest
-decreases-loop-rest l = length l.rest
+abbrev pub invariant-loop-mark : goal.invariant-loop-mark
+invariant-loop-mark l = HasPrinted l.value l.rest l.mark l.fn.out.items l.out.items
+
+abbrev pub decreases-loop-mark : goal.decreases-loop-mark
+decreases-loop-mark l = length l.rest
