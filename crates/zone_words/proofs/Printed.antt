@@ -2,3 +2,5 @@
 pub mod Fronts
 pub mod Addresses
 pub mod Pairs
+pub mod Numbers
+pub mod PairLaws
