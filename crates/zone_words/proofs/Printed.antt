@@ -12,3 +12,5 @@ pub mod Names
 pub mod Time
 pub mod Types
 pub mod Location
+pub mod Numbers
+pub mod PairLaws

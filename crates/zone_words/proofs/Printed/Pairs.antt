@@ -1,5 +1,5 @@
 -- Hexadecimal digits that are printed in groups: identifiers of hardware, and of nodes.
-use Rattle.zone_words.proofs.Common.{AreOctets, List, [], ap, append_assoc, arith, bytes_each, encode_lower, flat_map, get_or, join_with_byte, length, map, refl, subst, sym, take, take-length, take_more, drop, ℕ, ◌++◌, ◌+◌, ◌-◌, ◌<◌, ◌≤◌, ◌∙◌, ◌∷◌, ◌≡◌}
+use Rattle.zone_words.proofs.Common.{List, [], ap, append_assoc, arith, encode_lower, get_or, length, refl, sym, take, take-length, take_more, drop, ℕ, ◌++◌, ◌+◌, ◌-◌, ◌<◌, ◌≤◌, ◌∙◌, ◌∷◌, ◌≡◌}
 use Rattle.zone_words.proofs.Printed.Addresses.{part_octets}
 use Rattle.zone_words.proofs.Printed.Fronts.{front_printed, front_short}
 use Rattle.zone_words.specs.Kinds.Eui.{PrintsEui, StatesEui, eui_text}

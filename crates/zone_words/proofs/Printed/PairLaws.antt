@@ -1,0 +1,91 @@
+-- Hexadecimal digits that are printed in groups state their octets, and stand outside quotes.
+use Rattle.hex.proofs.HexLemmas.{decode_sized-encode_lower, length-encode_with}
+use Rattle.hex.specs.Hex.{decode_sized, lower_digits}
+use Rattle.zone_name.proofs.Texts.Bare.{StandsBare, bare_append}
+use Rattle.zone_rdata.proofs.Texts.Standing.{bare_hex, bare_tested}
+use Rattle.zone_rdata.specs.Address.{AddressPart, AreParts, IsGroup, parts_octets}
+use Rattle.zone_words.proofs.Common.{AllByRecursion, AllByRecursion-back, AllByRecursion-front, AllZip, AreOctets, List, [], ap, arith, each_below, encode_lower, false, flat_map, inl, join_with_byte, length, length-append, map, refl, replicate, subst, sym, ℕ, ◌*◌, ◌++◌, ◌-◌, ◌<◌, ◌∙◌, ◌∷◌, ◌≡◌}
+use Rattle.zone_words.specs.Kinds.Eui.{IsPair, PrintsEui, StatesEui, eui_text}
+use Rattle.zone_words.specs.Kinds.NodeId.{PrintsNodeId, StatesNodeId}
+
+-- ---- identifiers of hardware
+
+each_pair : (octets : List ℕ) → AreOctets octets → AllZip IsPair (map (λ c. encode_lower (c ∷ [])) octets) octets
+each_pair [] each = tt
+each_pair (c ∷ octets) each = (decode_sized-encode_lower (c ∷ []) 1 refl (each_below 256 (c ∷ []) (omega arith) (each.0, tt)), each_pair octets each.1)
+
+pub eui_printed_states : (count : ℕ) (text octets : List ℕ) → PrintsEui count text octets → StatesEui count text octets
+eui_printed_states count text octets p = record {
+  pairs = map (λ c. encode_lower (c ∷ [])) octets;
+  each = each_pair octets p.each;
+  parted = p.printed;
+  counted = p.counted;
+}
+
+pairs_stand : (octets : List ℕ) → 0 < length octets → AreOctets octets → StandsBare (eui_text octets)
+pairs_stand [] some each = absurd (omega arith)
+pairs_stand (c ∷ []) some each = bare_hex c [] each
+pairs_stand (c ∷ d ∷ octets) some each = bare_append (encode_lower (c ∷ [])) (45 ∷ eui_text (d ∷ octets)) (bare_hex c [] (each.0, tt)) (bare_append (45 ∷ []) (eui_text (d ∷ octets)) (bare_tested (45 ∷ []) refl) (pairs_stand (d ∷ octets) (omega arith) each.1))
+
+pub eui_printed_stands : (count : ℕ) (text octets : List ℕ) → 0 < count → PrintsEui count text octets → StandsBare text
+eui_printed_stands count text octets some p = subst StandsBare (sym p.printed) (pairs_stand octets (omega (arith, some, p.counted)) p.each)
+
+-- ---- identifiers of nodes
+
+abbrev AreTwo : List (List ℕ) → Type 0
+AreTwo groups = AllByRecursion (λ group. length group ≡ 2) groups
+
+abbrev part : List ℕ → AddressPart
+part group = record { text = encode_lower group; octets = group }
+
+is_group : (group : List ℕ) → length group ≡ 2 → AreOctets group → IsGroup (part group)
+is_group group two each =
+    let long : length (encode_lower group) ≡ 4 = length-encode_with lower_digits group ∙ ap (λ n. 2 * n) two in
+    let none : 4 - length (encode_lower group) ≡ 0 = omega (arith, long) in
+    record {
+      some = omega (arith, long);
+      few = omega (arith, long);
+      value = ap (λ n. decode_sized (replicate n 48 ++ encode_lower group) 2) none ∙ decode_sized-encode_lower group 2 two (each_below 256 group (omega arith) each);
+    }
+
+are_parts : (groups : List (List ℕ)) → AreTwo groups → AreOctets (flat_map (λ group. group) groups) → AreParts false (map part groups)
+are_parts [] two each = tt
+are_parts (g ∷ []) two each = inl (is_group g two.0 (AllByRecursion-front (λ c. c < 256) g [] each))
+are_parts (g ∷ h ∷ groups) two each = (is_group g two.0 (AllByRecursion-front (λ c. c < 256) g (flat_map (λ group. group) (h ∷ groups)) each), are_parts (h ∷ groups) two.1 (AllByRecursion-back (λ c. c < 256) g (flat_map (λ group. group) (h ∷ groups)) each))
+
+texts_of : (groups : List (List ℕ)) → map encode_lower groups ≡ map (λ (p : AddressPart). p.text) (map part groups)
+texts_of [] = refl
+texts_of (g ∷ groups) = ap (λ t. encode_lower g ∷ t) (texts_of groups)
+
+octets_in : (groups : List (List ℕ)) → flat_map (λ group. group) groups ≡ parts_octets (map part groups)
+octets_in [] = refl
+octets_in (g ∷ groups) = ap (λ t. g ++ t) (octets_in groups)
+
+two_each : (groups : List (List ℕ)) → AreTwo groups → length (flat_map (λ group. group) groups) ≡ 2 * length groups
+two_each [] two = refl
+two_each (g ∷ groups) two = omega (arith, two.0, two_each groups two.1, length-append g (flat_map (λ group. group) groups))
+
+pub node_id_printed_states : (text octets : List ℕ) → PrintsNodeId text octets → StatesNodeId text octets
+node_id_printed_states text octets p = record {
+  groups = record {
+    parts = map part p.groups;
+    each = are_parts p.groups p.two (subst AreOctets p.whole p.each);
+    parted = p.printed ∙ ap (join_with_byte 58) (texts_of p.groups);
+    value = p.whole ∙ octets_in p.groups;
+  };
+  four = omega (arith, ap length p.whole, two_each p.groups p.two, p.four);
+}
+
+bare_group : (group : List ℕ) → length group ≡ 2 → AreOctets group → StandsBare (encode_lower group)
+bare_group [] two each = absurd (omega (arith, two))
+bare_group (c ∷ group) two each = bare_hex c group each
+
+groups_stand : (groups : List (List ℕ)) → 0 < length groups → AreTwo groups → AreOctets (flat_map (λ group. group) groups) → StandsBare (join_with_byte 58 (map encode_lower groups))
+groups_stand [] some two each = absurd (omega arith)
+groups_stand (g ∷ []) some two each = bare_group g two.0 (AllByRecursion-front (λ c. c < 256) g [] each)
+groups_stand (g ∷ h ∷ groups) some two each =
+    bare_append (encode_lower g) (58 ∷ join_with_byte 58 (map encode_lower (h ∷ groups))) (bare_group g two.0 (AllByRecursion-front (λ c. c < 256) g (flat_map (λ group. group) (h ∷ groups)) each))
+    (bare_append (58 ∷ []) (join_with_byte 58 (map encode_lower (h ∷ groups))) (bare_tested (58 ∷ []) refl) (groups_stand (h ∷ groups) (omega arith) two.1 (AllByRecursion-back (λ c. c < 256) g (flat_map (λ group. group) (h ∷ groups)) each)))
+
+pub node_id_printed_stands : (text octets : List ℕ) → PrintsNodeId text octets → StandsBare text
+node_id_printed_stands text octets p = subst StandsBare (sym p.printed) (groups_stand p.groups (omega (arith, p.four)) p.two (subst AreOctets p.whole p.each))
