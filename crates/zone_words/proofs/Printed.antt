@@ -6,3 +6,7 @@ pub mod Digits
 pub mod Strings
 pub mod Base64Items
 pub mod Names
+pub mod Hashes
+pub mod ReadAgain
+pub mod ReadNames
+pub mod ReadValues

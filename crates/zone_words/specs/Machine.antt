@@ -18,3 +18,4 @@ pub mod Prefixes
 pub mod Locations
 pub mod Taking
 pub mod Names
+pub mod Hashes

@@ -18,8 +18,8 @@ counted_front Prints States octets rest old new value text after whole printed a
   printed = printed;
   appended = appended;
   alone = λ other more words parted states.
-    let of = after words other states in
-    of.1 ∙ ap with_length (sym (frame_same value of.0 rest more (sym whole ∙ parted ∙ ap (λ o. o ++ more) of.1)).0);
+      let of = after words other states in
+      of.1 ∙ ap with_length (sym (frame_same value of.0 rest more (sym whole ∙ parted ∙ ap (λ o. o ++ more) of.1)).0);
 }
 
 pub counted_none : (States : List ℕ → List ℕ → Type 0) (octets : List ℕ) → AfterLength States → NoneCounted octets → NoFront States octets

@@ -68,9 +68,9 @@ label_more octets rest after label old mid new low have cut some short pushed = 
   each = AllByRecursion-append IsCasedLabel have.labels (label ∷ []) have.each (label_is octets rest after label have.labels low have.front cut some short, tt);
   front = have.front ∙ ap (λ r. flat_map with_length have.labels ++ r) cut ∙ more_of with_length have.labels label after;
   appended =
-    pushed ∙ ap (λ m. m ++ label_text label) have.appended ∙ append_assoc old (flat_map label_text have.labels) (label_text label)
-    ∙ ap (λ t. old ++ (flat_map label_text have.labels ++ t)) (sym (append-nil (label_text label)))
-    ∙ ap (λ t. old ++ t) (more_of label_text have.labels label [] ∙ append-nil (flat_map label_text (have.labels ++ label ∷ [])));
+      pushed ∙ ap (λ m. m ++ label_text label) have.appended ∙ append_assoc old (flat_map label_text have.labels) (label_text label)
+      ∙ ap (λ t. old ++ (flat_map label_text have.labels ++ t)) (sym (append-nil (label_text label)))
+      ∙ ap (λ t. old ++ t) (more_of label_text have.labels label [] ∙ append-nil (flat_map label_text (have.labels ++ label ∷ [])));
 }
 
 -- ---- at the root's label
@@ -120,7 +120,7 @@ name_front octets rest old new p text dot is appended = record {
   printed = (p.labels, p.name, is, refl);
   appended = appended;
   alone = λ other after words parted states.
-    states.1.2 ∙ ap wire (sym (one_name p.labels states.1.0 rest after p.name.each states.1.1.name.each (sym p.whole ∙ parted ∙ ap (λ o. o ++ after) states.1.2)));
+      states.1.2 ∙ ap wire (sym (one_name p.labels states.1.0 rest after p.name.each states.1.1.name.each (sym p.whole ∙ parted ∙ ap (λ o. o ++ after) states.1.2)));
 }
 
 count_of : (octets rest : List ℕ) (labels : Labels) → octets ≡ wire labels ++ rest → length octets - length rest ≡ length (wire labels)

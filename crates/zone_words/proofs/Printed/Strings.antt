@@ -53,9 +53,9 @@ one_more_printed octets rest after old mid blank new have spaced front =
       each = AllByRecursion-append IsString have.strings (p.string ∷ []) have.each (p.is, tt);
       front = have.front ∙ ap (λ r. flat_map with_length have.strings ++ r) cut ∙ strings_more have.strings p.string after;
       appended =
-        front.appended ∙ ap (λ b. b ++ front.text) spaced ∙ ap (λ t. (mid ++ 32 ∷ []) ++ t) p.printed ∙ append_assoc mid (32 ∷ []) (string_text p.string)
-        ∙ ap (λ m. m ++ 32 ∷ string_text p.string) have.appended ∙ append_assoc old (after_blanks (map as_item have.strings)) (32 ∷ string_text p.string)
-        ∙ ap (λ t. old ++ t) (sym (items_more have.strings p.string));
+          front.appended ∙ ap (λ b. b ++ front.text) spaced ∙ ap (λ t. (mid ++ 32 ∷ []) ++ t) p.printed ∙ append_assoc mid (32 ∷ []) (string_text p.string)
+          ∙ ap (λ m. m ++ 32 ∷ string_text p.string) have.appended ∙ append_assoc old (after_blanks (map as_item have.strings)) (32 ∷ string_text p.string)
+          ∙ ap (λ t. old ++ t) (sym (items_more have.strings p.string));
     }
 
 some_strings : (octets : List ℕ) (strings : List (List ℕ)) → 0 < length octets → octets ≡ flat_map with_length strings ++ [] → 0 < length strings
