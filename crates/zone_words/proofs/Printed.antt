@@ -14,3 +14,7 @@ pub mod Types
 pub mod Location
 pub mod Numbers
 pub mod PairLaws
+pub mod Hashes
+pub mod ReadAgain
+pub mod ReadNames
+pub mod ReadValues

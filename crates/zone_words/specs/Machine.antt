@@ -20,3 +20,4 @@ pub mod Locations
 pub mod Taking
 pub mod Names
 pub mod PrintedTypes
+pub mod Hashes

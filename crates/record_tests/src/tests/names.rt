@@ -5,7 +5,9 @@ use std::test::Fail;
 use test_support::{
     Question, check, check_lines, check_table, parted, push_hex, push_text, push_words, rooted,
 };
-use zone_name::{CasedName, FixedBuffer, Name, NameBuilder, NameFault, NameRef, escape_at};
+use zone_name::{
+    CasedName, FixedBuffer, Name, NameBuilder, NameFault, NameRef, escape_at, push_label,
+};
 
 /// The name of a text under an origin; an empty origin is none.
 pub(super) fn named(text: &[u8], origin: &[u8]) -> Result<Name, NameFault> {
@@ -269,6 +271,16 @@ fn is_escape(text: &[u8], octet: u8, rest: &[u8]) -> bool {
 fn escapes_stand_for_octets(rt: HostRuntime) -> Result<(), Fail> {
     let are_escapes = is_escape(b".b", b'.', b"b") && is_escape(b"046b", b'.', b"b");
     check(are_escapes, "both escapes are full stops")
+}
+
+#[test]
+fn labels_are_printed_with_their_letters(rt: HostRuntime) -> Result<(), Fail> {
+    let mut text: FixedBuffer<8> = FixedBuffer::new();
+    let Ok(()) = push_label(b"A.b", &mut text);
+    check(
+        text.as_slice() == b"A\\.b.".as_slice(),
+        "a dot inside takes a backslash",
+    )
 }
 
 /// Whether a name is within the zone of an apex.

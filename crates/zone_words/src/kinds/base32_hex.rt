@@ -1,6 +1,9 @@
-ghost use Rattle.std.specs.Prelude.{◌≡◌, ◌<◌, length, IfErr, OnOk};
+ghost use Rattle.std.specs.Prelude.{◌≡◌, ◌<◌, ◌≤◌, length, IfErr, IfOk, OnOk};
+ghost use Rattle.std.specs.List.{AllZip};
 ghost use Rattle.zone_words.specs.Fault.{AppendsStated, IfFault, NothingStated};
-ghost use Rattle.zone_words.specs.Kinds.Hash.{FailsHash, IsBase32Hex, StatesHash, base32_digit};
+ghost use Rattle.zone_words.specs.Kinds.Hash.{FailsHash, IsBase32Hex, PrintsHash, StatesHash, base32_digit};
+ghost use Rattle.zone_words.specs.Machine.Hashes.{AppendsDigits, IsLowerDigit, block_values};
+ghost use Rattle.zone_words.specs.Printed.{IfNoData, NoFront, PrintsFront};
 ghost use Rattle.zone_words.specs.declared.fault.WordsFault.TheVariants.{NoBase32Hex};
 
 use crate::fault::{WordsFailing, WordsFault};
@@ -73,51 +76,78 @@ fn push_octets(text: &[u8], out: &mut Vec<u8>) -> Result<(), WordsFailing>
     Ok(())
 }
 
-/// The digits of the values below 32, in lower case (RFC 4648 7).
-const DIGITS: &[u8; 32] = b"0123456789abcdefghijklmnopqrstuv";
+/// The digit of a value below 32, in lower case (RFC 4648 7).
+fn digit_of(value: u8) -> u8
+    requires { value < 32 }
+    ensures { IsLowerDigit result value }
+{
+    if value < 10 {
+        b'0' + value
+    } else {
+        b'a' + (value - 10)
+    }
+}
 
-/// Appends octets in base32hex without padding.
-fn print_base32_hex(octets: &[u8], out: &mut Vec<u8>) -> Result<(), AllocError> {
-    for block in octets.chunks(5) {
+/// The octets of a block, which eight digits stand for (RFC 4648 7).
+const BLOCK: usize = 5;
+
+/// The digits of a whole block, in lower case (RFC 4648 7).
+fn digits_of(block: [u8; BLOCK]) -> [u8; 8]
+    ensures { AllZip IsLowerDigit result (block_values block) }
+{
+    let [a, b, c, d, e] = block;
+    [
+        digit_of(a / 8),
+        digit_of(a % 8 * 4 + b / 64),
+        digit_of(b / 2 % 32),
+        digit_of(b % 2 * 16 + c / 16),
+        digit_of(c % 16 * 2 + d / 128),
+        digit_of(d / 4 % 32),
+        digit_of(d % 4 * 8 + e / 32),
+        digit_of(e % 32),
+    ]
+}
+
+/// Appends the digits of one to five octets, those of which have bits of theirs.
+fn print_block(block: &[u8], out: &mut Vec<u8>) -> Result<(), AllocError>
+    requires some { 0 < length block.now }
+    requires few { length block.now ≤ BLOCK }
+    ensures { OnOk result (AppendsDigits block.now out.old.items out.new.items) }
+{
+    let mut whole = [0; BLOCK];
+    whole[..block.len()].copy_from_slice(block);
+    let digits = digits_of(whole);
+    out.extend_from_slice(&digits[..(8 * block.len()).div_ceil(5)])
+}
+
+/// Appends octets in base32hex without padding, in lower case.
+fn print_base32_hex(octets: &[u8], out: &mut Vec<u8>) -> Result<(), AllocError>
+    ensures { OnOk result (AppendsDigits octets.now out.old.items out.new.items) }
+{
+    let mut rest = octets;
+    while !rest.is_empty() {
+        let (block, after) = rest.split_at(BLOCK.min(rest.len()));
         print_block(block, out)?;
+        rest = after;
     }
     Ok(())
 }
 
-/// The first five octets as one number, in which those that are missing are 0.
-fn number_of(block: &[u8]) -> u64 {
-    let mut octets = [0; 8];
-    let count = block.len().min(5);
-    octets[3..3 + count].copy_from_slice(&block[..count]);
-    u64::from_be_bytes(octets)
-}
-
-/// The eight digits of a number of five octets.
-fn digits_of(bits: u64) -> [u8; 8] {
-    let mut digits = [0; 8];
-    for (at, digit) in digits.iter_mut().enumerate() {
-        let value = bits >> (35 - 5 * at) & 31;
-        *digit = DIGITS[value as usize];
-    }
-    digits
-}
-
-/// Appends the digits of up to five octets.
-fn print_block(block: &[u8], out: &mut Vec<u8>) -> Result<(), AllocError> {
-    let digits = digits_of(number_of(block));
-    let count = match block.len() {
-        1 => 2,
-        2 => 4,
-        3 => 5,
-        4 => 7,
-        _ => 8,
-    };
-    out.extend_from_slice(&digits[..count])
-}
-
-/// Appends the hash at the front (RFC 5155 3.3), and gives what is left.
-pub(crate) fn print_hash<'o>(octets: &'o [u8], out: &mut Vec<u8>) -> Result<&'o [u8], Unprinted> {
+/// Appends the hash at the front in base32hex, in lower case and without padding (RFC 5155 3.3), and
+/// gives what is left.
+///
+/// # Errors
+///
+/// `NoData` where no hash stands at the front, and want of memory. `out` may have got some of it.
+pub(crate) fn print_hash<'o>(octets: &'o [u8], out: &mut Vec<u8>) -> Result<&'o [u8], Unprinted>
+    ensures printed { IfOk result (λ rest.
+        PrintsFront PrintsHash StatesHash octets.now rest.now out.old.items out.new.items) }
+    ensures none { IfErr result (IfNoData (NoFront StatesHash octets.now)) }
+{
     let (hash, rest) = take_counted(octets)?;
+    if hash.is_empty() {
+        return Err(Unprinted::NoData);
+    }
     print_base32_hex(hash, out)?;
     Ok(rest)
 }
