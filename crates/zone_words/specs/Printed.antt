@@ -34,10 +34,10 @@ after_blanks items = flat_map (λ item. 32 ∷ written_item item) items
 
 -- all octets are printed: the items of which they are the octets are appended, each after a blank
 pub record PrintsAll (Prints : List RawItem → List ℕ → Type 0) (octets old new : List ℕ) : Type 0
-    where
-  pub items : List RawItem
-  pub printed : Prints items octets
-  pub appended : new ≡ old ++ after_blanks items
+  where
+    pub items : List RawItem
+    pub printed : Prints items octets
+    pub appended : new ≡ old ++ after_blanks items
 
 -- no items state the octets
 abbrev pub NoItems : (List RawItem → List ℕ → Type 0) → List ℕ → Type 0

@@ -10,7 +10,16 @@ ghost use Rattle.zone_words.specs.FirstItem.{FirstFails, FirstStates};
 use crate::data_item::DataItem;
 use crate::fault::{WordsFailing, WordsFault};
 use crate::kinds::{
-    print_algorithm, print_base64_item, print_certificate_type, print_eui, print_hash, print_hex, print_ipv4, print_ipv6, print_location, print_name, print_node_id, print_perhaps_types, print_prefixes, print_salt, print_string, print_strings, print_tag, print_time, print_type, print_types, print_u16, print_u32, print_u8, print_value_item, read_address_type, read_algorithm, read_base64, read_certificate_type, read_counted_digits, read_discovery, read_eui48, read_eui64, read_first_quoted_value, read_first_string, read_first_value, read_hash, read_hex, read_ipv4, read_ipv6, read_location, read_name, read_no_address, read_node_id, read_nothing, read_perhaps_string, read_perhaps_types, read_prefixes, read_public_key, read_salt, read_strings, read_tag, read_time, read_type, read_types, read_u16, read_u32, read_u8,
+    print_algorithm, print_base64_item, print_certificate_type, print_eui, print_hash, print_hex,
+    print_ipv4, print_ipv6, print_location, print_name, print_node_id, print_perhaps_types,
+    print_prefixes, print_salt, print_string, print_strings, print_tag, print_time, print_type,
+    print_types, print_u8, print_u16, print_u32, print_value_item, read_address_type,
+    read_algorithm, read_base64, read_certificate_type, read_counted_digits, read_discovery,
+    read_eui48, read_eui64, read_first_quoted_value, read_first_string, read_first_value,
+    read_hash, read_hex, read_ipv4, read_ipv6, read_location, read_name, read_no_address,
+    read_node_id, read_nothing, read_perhaps_string, read_perhaps_types, read_prefixes,
+    read_public_key, read_salt, read_strings, read_tag, read_time, read_type, read_types, read_u8,
+    read_u16, read_u32,
 };
 use crate::parameters::{print_parameters, read_parameters};
 use crate::unprinted::Unprinted;
