@@ -5,7 +5,7 @@ use std::test::Fail;
 use test_support::{Question, check_lines, check_octets, check_table};
 use words_print::{WordsPrinter, print_line, print_words};
 use zone_name::CasedName;
-use zone_words::rewrite_file;
+use zone_words::{further_type_of, print_data, rewrite_file};
 
 /// The words that a record in the generic form is shown in, which are rewritten as that record.
 struct RecordInWords;
@@ -272,4 +272,21 @@ fn texts_in_words(rt: HostRuntime) -> Result<(), Fail> {
         STAY.as_bytes(),
     )?;
     check_table::<TextInWords>(rt.alloc(), TEXTS)
+}
+
+/// The data of RFC 4034 5.4, whose digits are printed in lower case.
+#[test]
+fn words_of_data(rt: HostRuntime) -> Result<(), Fail> {
+    let octets = [
+        0xec, 0x45, 5, 1, 0x2b, 0xb1, 0x83, 0xaf, 0x5f, 0x22, 0x58, 0x81, 0x79, 0xa5, 0x3b, 0x0a,
+        0x98, 0x63, 0x1f, 0xad, 0x1a, 0x29, 0x21, 0x18,
+    ];
+    let further = further_type_of(b"DS").ok_or("DS")?;
+    let mut words = Vec::new(rt.alloc());
+    print_data(further.fields, &octets, &mut words).map_err(|_| "no words")?;
+    check_octets(
+        "DS",
+        &words,
+        b" 60485 5 1 2bb183af5f22588179a53b0a98631fad1a292118",
+    )
 }
