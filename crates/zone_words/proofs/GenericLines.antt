@@ -8,7 +8,8 @@ use Rattle.zone_text.specs.FirstEntry.{IsOneEntry}
 use Rattle.zone_words.proofs.HeadLines.{items_spelt, line_cut, line_ended, tokens}
 use Rattle.zone_words.proofs.WrittenWords.{ArePlain, hex_some, mark_is, plain_decimal, plain_hex, some_decimal, type_is, word_token}
 use Rattle.zone_words.specs.DataItem.{items_of}
-use Rattle.zone_words.specs.WordsLine.{IsBareText, IsHead, StandsBehind, generic_line, written_items}
+use Rattle.zone_words.specs.Parameters.Printed.{written_touching}
+use Rattle.zone_words.specs.WordsLine.{IsBareText, IsHead, StandsBehind, generic_line}
 
 abbrev after_blank : RawItem → TouchingItem
 after_blank item = record { item = item; touches = false }
@@ -45,12 +46,12 @@ form_items (c ∷ octets) = refl
 abbrev pub type_text : ℕ → List ℕ
 type_text number = codes "TYPE" ++ decimal number
 
-form_text : (number : ℕ) (octets : List ℕ) → type_text number ++ (written_items (form octets) ++ 10 ∷ []) ≡ text (generic_tokens number octets) ++ 10 ∷ []
+form_text : (number : ℕ) (octets : List ℕ) → type_text number ++ (written_touching (form octets) ++ 10 ∷ []) ≡ text (generic_tokens number octets) ++ 10 ∷ []
 form_text number [] =
-    sym (append_assoc (type_text number) (written_items (form [])) (10 ∷ []))
+    sym (append_assoc (type_text number) (written_touching (form [])) (10 ∷ []))
     ∙ (λ j. (plain_text (type_text number) j ++ 32 ∷ 92 ∷ 35 ∷ 32 ∷ (plain_text (decimal 0) j ++ [])) ++ 10 ∷ [])
 form_text number (c ∷ octets) =
-    sym (append_assoc (type_text number) (written_items (form (c ∷ octets))) (10 ∷ []))
+    sym (append_assoc (type_text number) (written_touching (form (c ∷ octets))) (10 ∷ []))
     ∙ (λ j. (plain_text (type_text number) j ++ 32 ∷ 92 ∷ 35 ∷ 32 ∷ (plain_text (decimal (length (c ∷ octets))) j ++ 32 ∷ (plain_text (encode_lower (c ∷ octets)) j ++ []))) ++ 10 ∷ [])
 
 pub generic_entry : (head : List ℕ) (class : ℕ) (further : FurtherType) (octets : List ℕ) (h : IsHead head class) → (found : List Token) × IsOneEntry (generic_line head further octets) found × (flat_map item_of found ≡ raw.bare h.owner ∷ raw.bare h.ttl ∷ raw.bare h.word ∷ raw.bare (type_text further.number) ∷ generic_items octets)

@@ -27,8 +27,8 @@ use Rattle.zone_words.specs.DataItem.{items_of}
 use Rattle.zone_words.specs.Entry.{in_words}
 use Rattle.zone_words.specs.Rewriting.{EachBecomes, whole}
 use Rattle.zone_words.specs.Table.{fields_in}
-use Rattle.zone_words.specs.PrintedData.{PrintsData}
-use Rattle.zone_words.specs.WordsLine.{IsBareText, IsHead, IsQuoted, Stands, StandsBehind, generic_line, words_line, written_items}
+use Rattle.zone_words.specs.Parameters.Printed.{written_touching}
+use Rattle.zone_words.specs.WordsLine.{IsBareText, IsHead, IsQuoted, Stands, StandsBehind, generic_line}
 use Rattle.zone_words.specs.Written.{Anew, digit_tokens, in_octets}
 
 -- ---- the tokens of items
@@ -60,16 +60,16 @@ item_is (raw.quoted t) s = ap (λ u. raw.quoted u ∷ []) (sym s.parts)
 
 -- ---- what holds of them
 
-gap_text : (touches : Bool) (tokens : List Token) → text (gap touches tokens) ≡ (if touches then [] else 32 ∷ []) ++ text tokens
-gap_text true tokens = refl
-gap_text false tokens = refl
+gap_text : (touches : Bool) (p : Token) (tokens : List Token) → text (gap touches (p ∷ tokens)) ≡ (if touches then token_text p else 32 ∷ token_text p) ++ text tokens
+gap_text true p tokens = refl
+gap_text false p tokens = refl
 
-tail_text : (items : List TouchingItem) (s : AllByRecursion StandsBehind items) → text (tail items s) ≡ written_items items ++ 10 ∷ []
+tail_text : (items : List TouchingItem) (s : AllByRecursion StandsBehind items) → text (tail items s) ≡ written_touching items ++ 10 ∷ []
 tail_text [] s = refl
 tail_text (i ∷ items) s =
-    gap_text i.touches (token_of i.item s.0.stands ∷ tail items s.1)
-    ∙ ap (λ t. (if i.touches then [] else 32 ∷ []) ++ t) ((λ j. token_written i.item s.0.stands j ++ tail_text items s.1 j) ∙ sym (append_assoc (written_item i.item) (written_items items) (10 ∷ [])))
-    ∙ sym (append_assoc (if i.touches then [] else 32 ∷ []) (written_item i.item ++ written_items items) (10 ∷ []))
+    gap_text i.touches (token_of i.item s.0.stands) (tail items s.1)
+    ∙ (λ j. (if i.touches then token_written i.item s.0.stands j else 32 ∷ token_written i.item s.0.stands j) ++ tail_text items s.1 j)
+    ∙ sym (append_assoc (if i.touches then written_item i.item else 32 ∷ written_item i.item) (written_touching items) (10 ∷ []))
 
 gap_each : (touches : Bool) (tokens : List Token) → AllByRecursion IsToken tokens → AllByRecursion IsToken (gap touches tokens)
 gap_each true tokens each = each
@@ -254,12 +254,12 @@ module _ (head : List ℕ) (class_number : ℕ) (type_text : List ℕ) (items : 
   pub front_text : text front ≡ head
   front_text = (λ j. sym h.owner_stands.spelt j ++ 32 ∷ (sym h.ttl_stands.spelt j ++ 32 ∷ (sym h.word_stands.spelt j ++ 32 ∷ []))) ∙ sym h.whole
 
-  line_text : head ++ (type_text ++ (written_items items ++ 10 ∷ [])) ≡ text tokens
+  line_text : head ++ (type_text ++ (written_touching items ++ 10 ∷ [])) ≡ text tokens
   line_text =
       sym (flat_map-append token_text front (bare type_units ∷ tail items s)
       ∙ (λ j. front_text j ++ (sym (plain_text type_text) j ++ tail_text items s j)))
 
-  pub line_cut : Cuts (head ++ (type_text ++ (written_items items ++ 10 ∷ []))) tokens
+  pub line_cut : Cuts (head ++ (type_text ++ (written_touching items ++ 10 ∷ []))) tokens
   line_cut = record {
     whole = line_text;
     each = (h.owner_stands.is, (refl, (h.ttl_stands.is, (refl, (h.word_stands.is, (refl, (type_is, tail_each items s)))))));

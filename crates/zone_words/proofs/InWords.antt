@@ -26,7 +26,7 @@ use Rattle.zone_words.specs.DataItem.{items_of}
 use Rattle.zone_words.specs.Entry.{in_words}
 use Rattle.zone_words.specs.Rewriting.{EachBecomes, whole}
 use Rattle.zone_words.specs.Table.{fields_in}
-use Rattle.zone_words.specs.WordsLine.{AreWords, IsBareText, IsHead, IsQuoted, Stands, StandsBehind, generic_line, words_line, written_items}
+use Rattle.zone_words.specs.WordsLine.{AreWords, IsBareText, IsHead, IsQuoted, Stands, StandsBehind, generic_line, words_line}
 use Rattle.zone_words.specs.Written.{Anew, digit_tokens, in_octets}
 use Rattle.zone_words.proofs.HeadLines.{IsOneOf, front, front_text, line_cut, line_ended, line_items, one_line, tail, tail_stays, tail_touching, tokens}
 

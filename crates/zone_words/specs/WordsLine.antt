@@ -1,19 +1,19 @@
 -- A record of a further type on one line of a master file, with its data in words and in the
 -- generic form (RFC 1035 5.1, RFC 3597 5).
-use Rattle.std.specs.Prelude.{◌≡◌, ◌≢◌, ◌+◌, ◌<◌, ℕ, List, [], ◌∷◌, ◌++◌, length, true, if◌then◌else◌, slice_get, IfSome, ⊤}
+use Rattle.std.specs.Prelude.{◌≡◌, ◌≢◌, ◌+◌, ◌<◌, ℕ, List, [], ◌∷◌, ◌++◌, length, true, slice_get, IfSome, ⊤}
 use Rattle.std.specs.List.{AllByRecursion}
 use Rattle.zone_name.specs.Common.{Labels}
 use Rattle.zone_name.specs.Spelling.{Written, written_text}
 use Rattle.zone_rdata.specs.Item.{IsGeneric, RawItem}
 use Rattle.zone_rdata.specs.Item as raw
 use Rattle.zone_rdata.specs.Strings.{StandsInQuotes}
-use Rattle.zone_rdata.specs.Text.{written_item}
 use Rattle.zone_rdata.specs.Words.{IsClass, IsClassWord}
 use Rattle.zone_text.specs.Inherited.{IsTtl}
 use Rattle.zone_text.specs.Tokens.{IsToken, bare, text}
 use Rattle.zone_words.specs.Data.{StatesData, in_order}
 use Rattle.zone_words.specs.DataItem.{TouchingItem, items_of}
 use Rattle.zone_words.specs.Entry.{most_items}
+use Rattle.zone_words.specs.Parameters.Printed.{written_touching}
 use Rattle.zone_words.specs.Table.{Fields, FurtherType, fields_in}
 use Rattle.zone_words.specs.Written.{generic_tokens}
 
@@ -36,12 +36,6 @@ IsQuoted (raw.quoted text) = ⊤
 pub record StandsBehind (i : TouchingItem) : Type 0 where
   pub stands : Stands i.item
   pub parted : i.touches ≡ true → IsQuoted i.item
-
--- items one after another: a blank stands before each that doesn't touch the one before it
-abbrev pub written_items : List TouchingItem → List ℕ
-written_items [] = []
-written_items (i ∷ items) =
-    (if i.touches then [] else 32 ∷ []) ++ (written_item i.item ++ written_items items)
 
 -- Items that are the words of a type's data, and stand on a line as they are: they state the octets
 -- under every origin, and no entry with them has too many items.
@@ -69,7 +63,7 @@ pub record IsHead (head : List ℕ) (class : ℕ) : Type 0 where
 
 -- the line of a record with its data in words
 abbrev pub words_line : List ℕ → FurtherType → List TouchingItem → List ℕ
-words_line head further items = head ++ (further.mnemonic ++ (written_items items ++ 10 ∷ []))
+words_line head further items = head ++ (further.mnemonic ++ (written_touching items ++ 10 ∷ []))
 
 -- the same with its data in the generic form
 abbrev pub generic_line : List ℕ → FurtherType → List ℕ → List ℕ
