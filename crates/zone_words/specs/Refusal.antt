@@ -25,7 +25,7 @@ pub record AddsTold (told : List Refused) (old new : Refusals) : Type 0 where
       ≡ option_or (option_map refused_of old.first) (first_of told)
   pub count : new.count ≡ old.count + length told
 
--- the line that tells of it: `line 10: RRSIG, signature: no base64`
+-- the line that tells of it: `line 10: RRSIG, signature: not base64`
 abbrev pub refusal_text : Refusal → List ℕ
 refusal_text r =
     codes "line " ++ decimal r.line ++ codes ": " ++ r.mnemonic.now ++ codes ", " ++ r.field.now

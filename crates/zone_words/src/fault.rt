@@ -16,9 +16,9 @@ pub enum WordsFault {
     NotAName(Option<NameFault>),
     /// The item is no time (RFC 4034 3.2).
     NotATime,
-    /// The items are no base64 (RFC 4648 4).
+    /// The items are not base64 (RFC 4648 4).
     NoBase64,
-    /// The items are no hexadecimal digits.
+    /// The items are not hexadecimal digits.
     NoHexadecimal,
     /// An item is the word of no type that a record can have.
     NotAType,
@@ -36,7 +36,7 @@ pub enum WordsFault {
     NotATag,
     /// The item is no address.
     NotAnAddress,
-    /// The item is no base32hex (RFC 4648 7).
+    /// The item is not base32hex (RFC 4648 7).
     NoBase32Hex,
     /// The items are no location (RFC 1876 3).
     NotALocation,

@@ -268,7 +268,7 @@ a DS 1 8 2 0g
 a TYPE43 \\# 5 0001080200
 a TLSA 1 1 256 00
 a TLSA 1 1 1
--- 3: line 2: DS, digest: no hexadecimal
+-- 3: line 2: DS, digest: not hexadecimal
 == a CAA 0 issue \"a
 b\"
 b CAA 0 issue \";\"
@@ -326,26 +326,26 @@ DS 1 8 256 00 => digest type: too large
 CSYNC 4294967296 0 => serial: too large
 DS 1 RSASHA 2 00 => algorithm: not a number
 CERT X509 0 0 AA== => type: not a number
-DS 1 8 2 000 => digest: no hexadecimal
-DS 1 8 2 00 \"00\" => digest: no hexadecimal
-OPENPGPKEY AQ= => key: no base64
-OPENPGPKEY AR== => key: no base64
-OPENPGPKEY AQ== AQ== => key: no base64
+DS 1 8 2 000 => digest: not hexadecimal
+DS 1 8 2 00 \"00\" => digest: not hexadecimal
+OPENPGPKEY AQ= => key: not base64
+OPENPGPKEY AR== => key: not base64
+OPENPGPKEY AQ== AQ== => key: not base64
 RRSIG ANY 8 2 1 1 1 1 . AQ== => type covered: not a type
 RRSIG A 8 2 1 20010229000000 1 1 . AQ== => expiration: not a time
 RRSIG A 8 2 1 1 4294967296 1 . AQ== => inception: too large
 RRSIG A 8 2 1 1 1 1 a..b AQ== => signer: not a name: a label is empty
 NSEC . => types: nothing left
 NSEC . A OPT => types: not a type
-NSEC3 1 0 1 abc 2t7b A => salt: no hexadecimal
+NSEC3 1 0 1 abc 2t7b A => salt: not hexadecimal
 NSEC3PARAM 1 0 1 00000000000000000000000000000000000000000000000000000000000000000000000000000000\
 0000000000000000000000000000000000000000000000000000000000000000000000000000000000000000000000000\
 0000000000000000000000000000000000000000000000000000000000000000000000000000000000000000000000000\
 0000000000000000000000000000000000000000000000000000000000000000000000000000000000000000000000000\
 0000000000000000000000000000000000000000000000000000000000000000000000000000000000000000000000000\
 00000000000000000000000000000000000000000000 => salt: too long
-NSEC3 1 0 1 - 2t7w A => next: no base32hex
-NSEC3 1 0 1 - 2t7 A => next: no base32hex
+NSEC3 1 0 1 - 2t7w A => next: not base32hex
+NSEC3 1 0 1 - 2t7 A => next: not base32hex
 NSEC3 1 0 1 - 00000000000000000000000000000000000000000000000000000000000000000000000000000000000\
 0000000000000000000000000000000000000000000000000000000000000000000000000000000000000000000000000\
 0000000000000000000000000000000000000000000000000000000000000000000000000000000000000000000000000\
@@ -359,8 +359,8 @@ L32 1 10.1.2 => locator32: not an address
 NID 1 1:2:3 => nodeid: not an address
 EUI48 00-00-5e-00-53 => address: not an address
 EUI64 00-00-5e-ef-10-00-00-2g => address: not an address
-APL 1:10.0.0.0/33 => data: no prefix
-APL 3:10.0.0.0/8 => data: no prefix
+APL 1:10.0.0.0/33 => data: not a prefix
+APL 3:10.0.0.0/8 => data: not a prefix
 LOC 42 21 54 N 71 06 18 => data: not a location
 LOC 90 0 0.001 N 0 W 0m => data: not a location
 LOC 1 N 1 W 42849672.96m => data: not a location
@@ -377,11 +377,11 @@ AMTRELAY 10 0 4 203.0.113.15 => type: too large
 AMTRELAY 10 0 3 a..b => relay: not a name: a label is empty
 HIP 256 20 AQ== => pk algorithm: too large
 HIP 2 => hit: nothing left
-HIP 2 2 AQ== => hit: no hexadecimal
-HIP 2 \"20\" AQ== => hit: no hexadecimal
+HIP 2 2 AQ== => hit: not hexadecimal
+HIP 2 \"20\" AQ== => hit: not hexadecimal
 HIP 2 20 => public key: nothing left
-HIP 2 20 AR== => public key: no base64
-HIP 2 20 \"AQ==\" => public key: no base64
+HIP 2 20 AR== => public key: not base64
+HIP 2 20 \"AQ==\" => public key: not base64
 HIP 2 20 AQ== rvs a..b => rendezvous servers: not a name: a label is empty
 HIP 2 20 AQ== \"rvs\" => rendezvous servers: not a name
 HIP 2 0000000000000000000000000000000000000000000000000000000000000000000000000000000000000000000\
