@@ -7,6 +7,7 @@ ghost use Rattle.zone_words.specs.NoFurther.{HasNoFurtherWord};
 ghost use Rattle.zone_words.specs.Rewriting.{Refused};
 
 pub mod data;
+pub mod printed;
 pub mod words;
 
 /// A file has one rewriting, and one list of refusals is told of it.

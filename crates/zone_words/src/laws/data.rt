@@ -1,8 +1,10 @@
 //! Laws of data in words, over the definitions alone.
 ghost use Rattle.std.specs.Prelude.{◌≡◌, List, ℕ};
-ghost use Rattle.zone_name.specs.Common.{Labels};
+ghost use Rattle.zone_name.specs.Common.{EitherIs, Labels};
+ghost use Rattle.zone_rdata.specs.Item.{RawItem};
 ghost use Rattle.zone_words.specs.Data.{DataFails, StatesData};
 ghost use Rattle.zone_words.specs.DataItem.{TouchingItem};
+ghost use Rattle.zone_words.specs.Kinds.Location.{FailsLocation, StatesLocation};
 ghost use Rattle.zone_words.specs.Table.{FurtherType, IsFurtherWord, NamedField};
 ghost use Rattle.zone_words.specs.declared.fault.WordsFault.{WordsFault};
 
@@ -34,4 +36,9 @@ pub fn data_has_one_fault()
         → DataFails origin fields ordered items name fault
         → DataFails origin fields ordered items other as_well
         → (name ≡ other) × (fault ≡ as_well) }
+{}
+
+/// Items of a location state octets or have a fault, never neither.
+pub fn a_location_is_stated_or_faulty()
+    ensures { (items : List RawItem) → EitherIs (StatesLocation items) (FailsLocation items) }
 {}
