@@ -1,19 +1,23 @@
 -- What is shown for the lines of a text: the data of records of further types in words in place of
--- the generic form (RFC 3597 5). That words stand for data is said by their rewriting: the generic
--- form that stood there.
-use Rattle.std.specs.Prelude.{◌≡◌, ◌≢◌, ◌⊎◌, ℕ, List, [], ◌∷◌, ◌++◌, IsSome, ⊤}
-use Rattle.std.specs.List.{AllByRecursion}
-use Rattle.zone_name.specs.Common.{Labels}
+-- the generic form (RFC 3597 5).
+use Rattle.std.specs.Prelude.{◌≡◌, ◌≢◌, ◌≤◌, ◌⊎◌, ℕ, List, [], ◌∷◌, ◌++◌, length, true, IsSome, Some, ⊤}
+use Rattle.std.specs.List.{AllByRecursion, flat_map}
+use Rattle.zone_name.specs.Common.{AreOctets, Labels}
 use Rattle.zone_print.specs.Laws.{EndsWithItsFeed, HasNoFeed}
-use Rattle.zone_text.specs.Entries.{entry_of}
+use Rattle.zone_rdata.specs.Table.{in_class}
+use Rattle.zone_rdata.specs.Words.{IsClass, IsClassWord}
+use Rattle.zone_text.specs.Entries.{entry_of, item_of}
 use Rattle.zone_text.specs.FirstEntry.{IsOneEntry}
 use Rattle.zone_text.specs.Inherited.{class_word}
 use Rattle.zone_text.specs.Statements.{statement_of}
-use Rattle.zone_text.specs.Tokens.{Token}
+use Rattle.zone_text.specs.Tokens.{Token, text}
 use Rattle.zone_words.specs.Data.{joined}
-use Rattle.zone_words.specs.Entry.{IsRewriting}
-use Rattle.zone_words.specs.Printed.{ArePrinted}
-use Rattle.zone_words.specs.Table.{FurtherType, IsFurtherWord}
+use Rattle.zone_words.specs.DataItem.{TouchingItem}
+use Rattle.zone_words.specs.Entry.{IsRewriting, most_items}
+use Rattle.zone_words.specs.Parameters.Printed.{written_touching}
+use Rattle.zone_words.specs.PrintedData.{HasNoWords, PrintsData}
+use Rattle.zone_words.specs.Table.{FurtherType, further_type}
+use Rattle.zone_words.specs.Written.{generic_tokens}
 
 -- the octets are one record of a master file, which states its class, and the line feed that ends
 -- it (RFC 1035 5.1)
@@ -21,20 +25,6 @@ pub record StatesItsClass (octets : List ℕ) : Type 0 where
   pub tokens : List Token
   pub one : IsOneEntry octets tokens
   pub class : IsSome (class_word (statement_of (entry_of 1 tokens)))
-
--- All before the word of a further type stays. Its mnemonic takes the word's place, and words that
--- are printed that of what stands after it, up to an end that stays too.
-pub record GetsMnemonic (old new : List ℕ) : Type 0 where
-  pub front : List ℕ
-  pub word : List ℕ
-  pub further : FurtherType
-  pub named : IsFurtherWord word further
-  pub after : List ℕ
-  pub words : List ℕ
-  pub printed : ArePrinted words
-  pub end : List ℕ
-  pub old_is : old ≡ front ++ word ++ after ++ end
-  pub new_is : new ≡ front ++ further.mnemonic ++ words ++ end
 
 -- A record that states its class, in words: its rewriting is the record that was there, under the
 -- root and under another origin too, so that no name in it is relative.
@@ -49,16 +39,69 @@ pub record IsRecordInWords (old new : List ℕ) : Type 0 where
 abbrev pub IsLineEnd : List ℕ → Type 0
 IsLineEnd end = (end ≡ []) ⊎ (end ≡ 10 ∷ [])
 
--- What is shown for a line: itself; or its record in words; or, where the line is no record that
--- states its class, as in a difference of two texts or at the end of one, what stands from some
--- place on in words, as it would be if it were a record without an owner.
+-- nothing, or what ends with a blank or a tab
+abbrev pub IsAtAWord : List ℕ → Type 0
+IsAtAWord ahead = (ahead ≡ []) ⊎ ((front : List ℕ) × (c : ℕ) × ((c ≡ 32) ⊎ (c ≡ 9))
+    × (ahead ≡ front ++ c ∷ []))
+
+-- What stands before the word of a type: a class word and a blank, at the beginning or after white
+-- space.
+pub record EndsWithClass (front : List ℕ) (class : ℕ) : Type 0 where
+  pub ahead : List ℕ
+  pub word : List ℕ
+  pub whole : front ≡ ahead ++ word ++ 32 ∷ []
+  pub parted : IsAtAWord ahead
+  pub named : IsClassWord word class
+  pub is : IsClass class
+
+-- A line that ends with a record of a further type in the generic form, in a class that has the type:
+-- all before the type, the type, the octets, and the line feed, if it has one.
+pub record EndsWithData (line front : List ℕ) (further : FurtherType) (octets end : List ℕ) : Type 0
+  where
+    pub class : ℕ
+    pub before : EndsWithClass front class
+    pub row : further_type further.number ≡ Some further
+    pub has_type : further.in_internet_alone ≡ true → class ≡ in_class
+    pub each : AreOctets octets
+    pub whole : line ≡ front ++ text (generic_tokens further.number octets) ++ end
+    pub ends : IsLineEnd end
+
+-- the same line with the type's mnemonic and items
+abbrev pub with_words : List ℕ → FurtherType → List TouchingItem → List ℕ → List ℕ
+with_words front further items end =
+    front ++ further.mnemonic ++ written_touching items ++ end
+
+-- Where the line is one record that states its class, what is shown is that record: so the type and
+-- the data at its end are its own, and not, say, strings of another record.
+abbrev pub Fits : List ℕ → List ℕ → Type 0
+Fits line shown = StatesItsClass line → IsRecordInWords line shown
+
+-- the line is one entry that has more items than a record has
+pub record HasTooManyItems (line : List ℕ) : Type 0 where
+  pub tokens : List Token
+  pub one : IsOneEntry line tokens
+  pub many : most_items ≤ length (flat_map item_of tokens)
+
+-- What is shown for a line. Where it ends with data of a further type, all before the type stays, and
+-- the type gets its mnemonic and the data the words that are printed for its octets; also behind
+-- other text, as in a difference of two texts. It stays where it ends with no such data, where no
+-- items state the octets, and where it is a record of which that is not the data.
 pub data IsShownLine (line shown : List ℕ) : Type 0 where
-  stays : shown ≡ line → IsShownLine line shown
-  in_words : GetsMnemonic line shown → IsRecordInWords line shown → IsShownLine line shown
-  after_others : (ahead old new end : List ℕ) → (StatesItsClass line → ⊥)
-      → line ≡ ahead ++ old ++ end → shown ≡ ahead ++ new ++ end → IsLineEnd end
-      → GetsMnemonic old new → IsRecordInWords (32 ∷ old ++ 10 ∷ []) (32 ∷ new ++ 10 ∷ [])
+  gets_words : (front : List ℕ) (further : FurtherType) (octets end : List ℕ)
+      (items : List TouchingItem) → EndsWithData line front further octets end
+      → PrintsData further.fields items octets → Fits line (with_words front further items end)
+      → shown ≡ with_words front further items end → IsShownLine line shown
+  no_data : ((front : List ℕ) (further : FurtherType) (octets end : List ℕ)
+      → EndsWithData line front further octets end → ⊥) → shown ≡ line → IsShownLine line shown
+  no_words : (front : List ℕ) (further : FurtherType) (octets end : List ℕ)
+      → EndsWithData line front further octets end → HasNoWords further.fields octets
+      → shown ≡ line → IsShownLine line shown
+  of_another : (front : List ℕ) (further : FurtherType) (octets end : List ℕ)
+      (items : List TouchingItem) → EndsWithData line front further octets end
+      → PrintsData further.fields items octets → StatesItsClass line
+      → (IsRecordInWords line (with_words front further items end) → ⊥) → shown ≡ line
       → IsShownLine line shown
+  too_many_items : HasTooManyItems line → shown ≡ line → IsShownLine line shown
 
 -- line for line
 abbrev pub EachIsShown : List (List ℕ) → List (List ℕ) → Type 0

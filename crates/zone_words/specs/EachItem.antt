@@ -1,7 +1,7 @@
 -- What items state where each states its own octets, one after another.
-use Rattle.std.specs.Prelude.{◌≡◌, ℕ, ◌⊎◌, List, [], ◌∷◌}
+use Rattle.std.specs.Prelude.{◌≡◌, ℕ, ◌⊎◌, List, [], ◌∷◌, map}
 use Rattle.std.specs.List.{AllZip, flat_map}
-use Rattle.zone_rdata.specs.Spelling.{RawItem}
+use Rattle.zone_rdata.specs.Spelling.{RawItem, bare}
 use Rattle.zone_words.specs.declared.fault.WordsFault.{WordsFault}
 
 -- each item states its part of the octets
@@ -9,6 +9,15 @@ pub record EachStates (States : RawItem → List ℕ → Type 0) (items : List R
     (octets : List ℕ) : Type 0 where
   pub parts : List (List ℕ)
   pub each : AllZip States items parts
+  pub value : octets ≡ flat_map (λ part. part) parts
+
+-- a bare item is printed for each part of the octets
+pub record EachIsPrinted (Prints : List ℕ → List ℕ → Type 0) (items : List RawItem)
+    (octets : List ℕ) : Type 0 where
+  pub texts : List (List ℕ)
+  pub parts : List (List ℕ)
+  pub each : AllZip Prints texts parts
+  pub printed : items ≡ map bare texts
   pub value : octets ≡ flat_map (λ part. part) parts
 
 -- the first item fails, or it states octets and a later one is the first that fails

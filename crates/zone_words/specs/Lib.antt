@@ -9,6 +9,7 @@ pub mod Table
 pub mod Data
 pub mod Parameters
 pub mod Printed
+pub mod PrintedData
 pub mod Machine
 pub mod Written
 pub mod Rewriting

@@ -5,6 +5,7 @@ pub mod KnownItems
 pub mod Numbers
 pub mod Strings
 pub mod Fields
+pub mod PrintedFields
 pub mod HostIdentity
 pub mod EntryWriting
 pub mod FedWriting

@@ -1,19 +1,17 @@
 //! Data in words: its fields, one after another.
-ghost use Rattle.std.specs.Prelude.{◌≡◌, ◌↔◌, ◌≤◌, IsTrue, [], drop, length, map, IfOk, IfErr, IfSome, IfNone, OnOk, OnErr};
+ghost use Rattle.std.specs.Prelude.{◌≡◌, ◌≤◌, [], drop, length, map, IfOk, IfErr, IfSome, IfNone, OnOk, OnErr};
 ghost use Rattle.zone_words.specs.Data.{AFieldFails, DataFails, IfDataFault, StatesData, in_order, joined, last_name, lengths_first};
 ghost use Rattle.zone_words.specs.DataItem.{given};
 ghost use Rattle.zone_words.specs.Fault.{AppendsStated};
 ghost use Rattle.zone_words.specs.Field.{StatesField};
 ghost use Rattle.zone_words.specs.Machine.Fields.{AppendsParts, IsFieldFault, IsWhole, WholeFails};
-ghost use Rattle.zone_words.specs.Printed.{ArePrinted};
 ghost use Rattle.zone_words.specs.Table.{field_of, fields_in, hip_fields, of_code};
 
 use crate::data_item::DataItem;
 use crate::fault::{WordsFailing, WordsFault};
 use crate::field::Field;
 use crate::fields::{Fields, amtrelay_fields, hip_fields, ipseckey_fields};
-use crate::kinds::{lengths_first, print_amtrelay, print_hip, print_ipseckey};
-use crate::unprinted::Unprinted;
+use crate::kinds::lengths_first;
 use zone_name::CasedName;
 
 /// Why items state no data.
@@ -198,50 +196,5 @@ fn last_name(fields: &[Field]) -> &'static str
     match fields.last() {
         Some(field) => field.0,
         None => "data",
-    }
-}
-
-/// Whether a terminal shows each octet as it is.
-fn are_printed(octets: &[u8]) -> bool
-    ensures { IsTrue result ↔ ArePrinted octets.now }
-{
-    octets.iter().all(|octet| *octet >= b' ' && *octet <= b'~')
-}
-
-/// Puts the words of data in place of what `words` held, a blank before each item. None of their
-/// octets is one that a terminal shows as something else. That they state the data isn't said yet:
-/// whoever shows them reads them again.
-///
-/// # Errors
-///
-/// `NoData` where the octets aren't data of these fields, and want of memory. `words` may have got
-/// some words.
-pub fn print_data(fields: Fields, octets: &[u8], words: &mut Vec<u8>) -> Result<(), Unprinted>
-    ensures { OnOk result (ArePrinted words.new.items) }
-{
-    words.clear();
-    match fields {
-        Fields::Same(fields) => print_fields(fields, octets, words)?,
-        Fields::Ipseckey => print_ipseckey(octets, words)?,
-        Fields::Amtrelay => print_amtrelay(octets, words)?,
-        Fields::Hip => print_hip(octets, words)?,
-    }
-    if are_printed(words) {
-        Ok(())
-    } else {
-        Err(Unprinted::NoData)
-    }
-}
-
-/// Appends the words of fields, a blank before each item.
-fn print_fields(fields: &[Field], octets: &[u8], out: &mut Vec<u8>) -> Result<(), Unprinted> {
-    let mut rest = octets;
-    for field in fields {
-        rest = field.1.print(rest, out)?;
-    }
-    if rest.is_empty() {
-        Ok(())
-    } else {
-        Err(Unprinted::NoData)
     }
 }

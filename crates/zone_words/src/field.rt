@@ -10,19 +10,14 @@ ghost use Rattle.zone_words.specs.FirstItem.{FirstFails, FirstStates};
 use crate::data_item::DataItem;
 use crate::fault::{WordsFailing, WordsFault};
 use crate::kinds::{
-    print_algorithm, print_base64_item, print_certificate_type, print_eui, print_hash, print_hex,
-    print_ipv4, print_ipv6, print_location, print_name, print_node_id, print_perhaps_types,
-    print_prefixes, print_salt, print_string, print_strings, print_tag, print_time, print_type,
-    print_types, print_u8, print_u16, print_u32, print_value_item, read_address_type,
-    read_algorithm, read_base64, read_certificate_type, read_counted_digits, read_discovery,
-    read_eui48, read_eui64, read_first_quoted_value, read_first_string, read_first_value,
-    read_hash, read_hex, read_ipv4, read_ipv6, read_location, read_name, read_no_address,
-    read_node_id, read_nothing, read_perhaps_string, read_perhaps_types, read_prefixes,
-    read_public_key, read_salt, read_strings, read_tag, read_time, read_type, read_types, read_u8,
-    read_u16, read_u32,
+    read_address_type, read_algorithm, read_base64, read_certificate_type, read_counted_digits,
+    read_discovery, read_eui48, read_eui64, read_first_quoted_value, read_first_string,
+    read_first_value, read_hash, read_hex, read_ipv4, read_ipv6, read_location, read_name,
+    read_no_address, read_node_id, read_nothing, read_perhaps_string, read_perhaps_types,
+    read_prefixes, read_public_key, read_salt, read_strings, read_tag, read_time, read_type,
+    read_types, read_u8, read_u16, read_u32,
 };
-use crate::parameters::{print_parameters, read_parameters};
-use crate::unprinted::Unprinted;
+use crate::parameters::read_parameters;
 use zone_name::CasedName;
 use zone_rdata::Item;
 
@@ -247,34 +242,6 @@ impl BareKind {
         }
         Ok(())
     }
-
-    /// Appends the item at the front, and gives what is left.
-    fn print<'o>(self, octets: &'o [u8], out: &mut Vec<u8>) -> Result<&'o [u8], Unprinted> {
-        match self {
-            BareKind::U8 => print_u8(octets, out),
-            BareKind::U16 => print_u16(octets, out),
-            BareKind::U32 => print_u32(octets, out),
-            BareKind::Algorithm => print_algorithm(octets, out),
-            BareKind::CertificateType => print_certificate_type(octets, out),
-            BareKind::RecordType => print_type(octets, out),
-            BareKind::Time => print_time(octets, out),
-            BareKind::Name => print_name(octets, out),
-            BareKind::Salt => print_salt(octets, out),
-            BareKind::Hash => print_hash(octets, out),
-            BareKind::Tag => print_tag(octets, out),
-            BareKind::Ipv4 => print_ipv4(octets, out),
-            BareKind::Ipv6 => print_ipv6(octets, out),
-            // Those of the types that `gateway` and `host_identity` print as a whole.
-            BareKind::AddressType(_)
-            | BareKind::Discovery
-            | BareKind::NoAddress
-            | BareKind::HostIdentityTag
-            | BareKind::PublicKey => Err(Unprinted::NoData),
-            BareKind::NodeId => print_node_id(octets, out),
-            BareKind::Eui48 => print_eui(octets, 6, out),
-            BareKind::Eui64 => print_eui(octets, 8, out),
-        }
-    }
 }
 
 impl FieldKind {
@@ -333,54 +300,6 @@ impl FieldKind {
             FieldKind::Location => read_location(items, out),
             FieldKind::Nothing => read_nothing(items, out),
             FieldKind::Parameters => read_parameters(items, out),
-        }
-    }
-
-    /// Appends the words of a field that all octets are, a blank before each item.
-    fn print_last(self, octets: &[u8], out: &mut Vec<u8>) -> Result<(), Unprinted> {
-        match self {
-            FieldKind::Value | FieldKind::QuotedValue => print_value_item(octets, out),
-            FieldKind::Hex => print_hex(octets, out),
-            FieldKind::Base64 => print_base64_item(octets, out),
-            FieldKind::Strings => print_strings(octets, out),
-            FieldKind::Types => print_types(octets, out),
-            FieldKind::PerhapsTypes => print_perhaps_types(octets, out),
-            FieldKind::Prefixes => print_prefixes(octets, out),
-            FieldKind::Location => print_location(octets, out),
-            FieldKind::Parameters => print_parameters(octets, out),
-            // No field of all octets, or one that `host_identity` prints.
-            FieldKind::Nothing
-            | FieldKind::Bare(_)
-            | FieldKind::Each(_)
-            | FieldKind::OneString
-            | FieldKind::PerhapsOneString => Err(Unprinted::NoData),
-        }
-    }
-
-    /// Appends the words of the field at the front, a blank before each item, and gives what is left.
-    pub(crate) fn print<'o>(
-        self,
-        octets: &'o [u8],
-        out: &mut Vec<u8>,
-    ) -> Result<&'o [u8], Unprinted> {
-        match self {
-            FieldKind::Bare(kind) => {
-                out.push(b' ')?;
-                kind.print(octets, out)
-            }
-            FieldKind::OneString => {
-                out.push(b' ')?;
-                print_string(octets, out)
-            }
-            FieldKind::PerhapsOneString if octets.is_empty() => Ok(octets),
-            FieldKind::PerhapsOneString => {
-                out.push(b' ')?;
-                print_string(octets, out)
-            }
-            _ => {
-                self.print_last(octets, out)?;
-                Ok(&[])
-            }
         }
     }
 }

@@ -27,11 +27,13 @@ pub(crate) use base32_hex::{print_hash, read_hash};
 pub(crate) use base64_text::{print_base64, print_base64_item, push_decoded, read_base64};
 pub(crate) use eui::{print_eui, read_eui48, read_eui64};
 pub(crate) use gateway::{
-    print_amtrelay, print_ipseckey, read_address_type, read_discovery, read_no_address,
-    read_nothing,
+    print_address_type, print_discovery, print_no_address, read_address_type, read_discovery,
+    read_no_address, read_nothing,
 };
 pub(crate) use hexadecimal::{print_hex, read_counted_digits, read_hex};
-pub(crate) use host_identity::{lengths_first, print_hip, read_public_key};
+pub(crate) use host_identity::{
+    lengths_first, print_host_identity_tag, print_public_key, read_public_key,
+};
 pub(crate) use location::{print_location, read_location};
 pub(crate) use name::{print_name, read_name};
 pub(crate) use node_id::{print_node_id, read_node_id};

@@ -1,6 +1,6 @@
 -- Gateways and relays: which kind of address they are, and none at all (RFC 4025 2.3, 2.5; RFC 8777
 -- 4.2.2, 4.2.3, 4.2.4).
-use Rattle.std.specs.Prelude.{◌≡◌, ◌≢◌, ℕ, ◌+◌, ◌<◌, ◌≤◌, List, [], ◌∷◌, codes, Bool, true, false, None}
+use Rattle.std.specs.Prelude.{◌≡◌, ◌≢◌, ℕ, ◌+◌, ◌<◌, ◌≤◌, List, [], ◌∷◌, codes, decimal, Bool, true, false, None}
 use Rattle.zone_name.specs.Common.{NothingIs}
 use Rattle.zone_rdata.specs.Item.{RawItem}
 use Rattle.zone_rdata.specs.Number.{IsDecimal}
@@ -12,6 +12,13 @@ pub record StatesUpTo (most : ℕ) (octets_of : ℕ → List ℕ) (text octets :
   pub number : ℕ
   pub stated : IsDecimal text number
   pub few : number ≤ most
+  pub value : octets ≡ octets_of number
+
+-- the same by digits without leading zeros
+pub record PrintsUpTo (most : ℕ) (octets_of : ℕ → List ℕ) (text octets : List ℕ) : Type 0 where
+  pub number : ℕ
+  pub few : number ≤ most
+  pub printed : text ≡ decimal number
   pub value : octets ≡ octets_of number
 
 -- why a text has no such digits
@@ -33,12 +40,19 @@ StatesAddressType optional text octets =
 abbrev pub FailsAddressType : List ℕ → WordsFault → Type 0
 FailsAddressType text fault = FailsUpTo 3 text fault
 
+abbrev pub PrintsAddressType : Bool → List ℕ → List ℕ → Type 0
+PrintsAddressType optional text octets =
+    PrintsUpTo 3 (λ n. (discovery_bit optional + n) ∷ []) text octets
+
 -- 0 or 1 for that bit, which is an octet with the type after it
 abbrev pub StatesDiscovery : List ℕ → List ℕ → Type 0
 StatesDiscovery text octets = StatesUpTo 1 (λ n. []) text octets
 
 abbrev pub FailsDiscovery : List ℕ → WordsFault → Type 0
 FailsDiscovery text fault = FailsUpTo 1 text fault
+
+abbrev pub PrintsDiscovery : List ℕ → List ℕ → Type 0
+PrintsDiscovery text octets = PrintsUpTo 1 (λ n. []) text octets
 
 -- a dot in place of a gateway or a relay, which is no octets
 abbrev pub StatesNoAddress : List ℕ → List ℕ → Type 0

@@ -71,3 +71,6 @@ StatesPrefixes (item ∷ items) octets =
 
 abbrev pub FailsPrefixes : List RawItem → WordsFault → Type 0
 FailsPrefixes items fault = NothingStated NoPrefix (StatesPrefixes items) fault
+
+abbrev pub PrintsPrefixes : List RawItem → List ℕ → Type 0
+PrintsPrefixes items octets = StatesPrefixes items octets

@@ -64,6 +64,18 @@ pub record PrintsString (text octets : List ℕ) : Type 0 where
   pub printed : text ≡ string_text string
   pub value : octets ≡ with_length string
 
+-- such a string as an item
+pub record PrintsStringItem (items : List RawItem) (octets : List ℕ) : Type 0 where
+  pub string : List ℕ
+  pub is : IsString string
+  pub printed : items ≡ quoted (inside_text string) ∷ []
+  pub value : octets ≡ with_length string
+
+-- no item where there are no octets
+abbrev pub PrintsPerhaps : List RawItem → List ℕ → Type 0
+PrintsPerhaps [] octets = octets ≡ []
+PrintsPerhaps (item ∷ items) octets = PrintsStringItem (item ∷ items) octets
+
 -- one string or more, each in quotes
 pub record PrintsStrings (items : List RawItem) (octets : List ℕ) : Type 0 where
   pub strings : List (List ℕ)

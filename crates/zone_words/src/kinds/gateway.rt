@@ -1,12 +1,10 @@
 //! Gateways and relays (RFC 4025, RFC 8777).
-ghost use Rattle.std.specs.Prelude.{◌≡◌, ◌≤◌, map, IfErr, OnOk};
+ghost use Rattle.std.specs.Prelude.{◌≡◌, ◌≤◌, map, IfErr, IfOk, OnOk};
 ghost use Rattle.zone_words.specs.DataItem.{raw_item};
 ghost use Rattle.zone_words.specs.Fault.{AppendsStated, IfFault};
-ghost use Rattle.zone_words.specs.Kinds.Gateway.{FailsAddressType, FailsDiscovery, FailsNoAddress, FailsNothing, StatesAddressType, StatesDiscovery, StatesNoAddress, StatesNothing, discovery_bit};
+ghost use Rattle.zone_words.specs.Kinds.Gateway.{FailsAddressType, FailsDiscovery, FailsNoAddress, FailsNothing, PrintsAddressType, PrintsDiscovery, StatesAddressType, StatesDiscovery, StatesNoAddress, StatesNothing, discovery_bit};
+ghost use Rattle.zone_words.specs.Printed.{IfNoData, NoFront, PrintsFront};
 
-use super::address::{print_ipv4, print_ipv6};
-use super::base64_text::print_base64;
-use super::name::print_name;
 use super::number::{at_most, print_decimal};
 use crate::data_item::DataItem;
 use crate::fault::{WordsFailing, WordsFault};
@@ -95,55 +93,59 @@ pub(crate) fn read_nothing(items: &[DataItem], out: &mut Vec<u8>) -> Result<(), 
     }
 }
 
-/// Appends the address of a type at the front (RFC 4025 2.3, RFC 8777 4.2.3), a blank before it,
-/// and gives what is left.
-fn print_address<'o>(
-    number: u8,
+/// Appends the type of a gateway or a relay at the front, in digits, and gives what is left.
+///
+/// # Errors
+///
+/// `NoData` where the octet is no such type, and `OutOfMemory`.
+pub(crate) fn print_address_type<'o>(
+    octets: &'o [u8],
+    optional: bool,
+    out: &mut Vec<u8>,
+) -> Result<&'o [u8], Unprinted>
+    ensures printed { IfOk result (λ rest.
+        PrintsFront (PrintsAddressType optional) (StatesAddressType optional) octets.now rest.now
+        out.old.items out.new.items) }
+    ensures none { IfErr result (IfNoData (NoFront (StatesAddressType optional) octets.now)) }
+{
+    let (octet, rest) = take_u8(octets)?;
+    let bit = discovery_bit(optional);
+    if octet < bit || octet - bit > 3 {
+        return Err(Unprinted::NoData);
+    }
+    print_decimal(u32::from(octet - bit), out)?;
+    Ok(rest)
+}
+
+/// Appends whether the discovery of a relay is optional, 1 or 0: the highest bit of the octet of its
+/// type, which is left.
+pub(crate) fn print_discovery<'o>(
     octets: &'o [u8],
     out: &mut Vec<u8>,
-) -> Result<&'o [u8], Unprinted> {
-    out.extend_from_slice(b" ")?;
-    match number {
-        0 => {
-            out.extend_from_slice(b".")?;
-            Ok(octets)
-        }
-        1 => print_ipv4(octets, out),
-        2 => print_ipv6(octets, out),
-        3 => print_name(octets, out),
-        _ => Err(Unprinted::NoData),
-    }
+) -> Result<&'o [u8], Unprinted>
+    ensures printed { IfOk result (λ rest.
+        PrintsFront PrintsDiscovery StatesDiscovery octets.now rest.now out.old.items
+        out.new.items) }
+    ensures none { IfErr result (IfNoData (NoFront StatesDiscovery octets.now)) }
+{
+    let optional = match octets {
+        [octet, ..] => *octet >= 128,
+        [] => false,
+    };
+    out.push(if optional { b'1' } else { b'0' })?;
+    Ok(octets)
 }
 
-/// Appends the words of IPSECKEY data (RFC 4025 3.1), a blank before each item.
-pub(crate) fn print_ipseckey(octets: &[u8], out: &mut Vec<u8>) -> Result<(), Unprinted> {
-    let (precedence, rest) = take_u8(octets)?;
-    let (gateway, rest) = take_u8(rest)?;
-    let (algorithm, rest) = take_u8(rest)?;
-    for number in [precedence, gateway, algorithm] {
-        out.extend_from_slice(b" ")?;
-        print_decimal(u32::from(number), out)?;
-    }
-    let key = print_address(gateway, rest, out)?;
-    if key.is_empty() {
-        return Ok(());
-    }
-    out.extend_from_slice(b" ")?;
-    print_base64(key, out)
-}
-
-/// Appends the words of AMTRELAY data (RFC 8777 4.3.1), a blank before each item.
-pub(crate) fn print_amtrelay(octets: &[u8], out: &mut Vec<u8>) -> Result<(), Unprinted> {
-    let (precedence, rest) = take_u8(octets)?;
-    let (relay, rest) = take_u8(rest)?;
-    for number in [precedence, relay / 128, relay % 128] {
-        out.extend_from_slice(b" ")?;
-        print_decimal(u32::from(number), out)?;
-    }
-    let rest = print_address(relay % 128, rest, out)?;
-    if rest.is_empty() {
-        Ok(())
-    } else {
-        Err(Unprinted::NoData)
-    }
+/// Appends the `.` in place of a gateway or a relay, which is no octets.
+pub(crate) fn print_no_address<'o>(
+    octets: &'o [u8],
+    out: &mut Vec<u8>,
+) -> Result<&'o [u8], Unprinted>
+    ensures printed { IfOk result (λ rest.
+        PrintsFront StatesNoAddress StatesNoAddress octets.now rest.now out.old.items
+        out.new.items) }
+    ensures none { IfErr result (IfNoData (NoFront StatesNoAddress octets.now)) }
+{
+    out.push(b'.')?;
+    Ok(octets)
 }

@@ -1,14 +1,13 @@
 //! What the data of a host's identity has: its public key, and the order of its octets (RFC 8005).
-ghost use Rattle.std.specs.Prelude.{◌≡◌, IfErr, OnOk};
+ghost use Rattle.std.specs.Prelude.{◌≡◌, IfErr, IfOk, OnOk};
 ghost use Rattle.zone_words.specs.Fault.{AppendsStated, IfFault};
-ghost use Rattle.zone_words.specs.Kinds.HostIdentity.{FailsPublicKey, StatesPublicKey};
+ghost use Rattle.zone_words.specs.Kinds.HostIdentity.{FailsPublicKey, PrintsHostIdentityTag, PrintsPublicKey, StatesHostIdentityTag, StatesPublicKey};
 ghost use Rattle.zone_words.specs.Machine.HostIdentity.{AreLengthsWithin, PutsLengthsFirst};
+ghost use Rattle.zone_words.specs.Printed.{IfNoData, NoFront, PrintsFront};
 
 use super::base64_text::{print_base64, push_decoded};
-use super::name::print_name;
-use super::number::print_decimal;
 use crate::fault::{WordsFailing, WordsFault};
-use crate::taking::{take, take_u8, take_u16};
+use crate::taking::{take, take_counted, take_u16};
 use crate::unprinted::Unprinted;
 use zone_rdata::push_hex;
 
@@ -48,28 +47,47 @@ pub(crate) fn lengths_first(octets: &mut Vec<u8>)
     octets[2..key_length + 2].rotate_right(2);
 }
 
-/// Appends the words of HIP data (RFC 8005 5, 6), a blank before each item.
-pub(crate) fn print_hip(octets: &[u8], out: &mut Vec<u8>) -> Result<(), Unprinted> {
-    let (tag_length, rest) = take_u8(octets)?;
-    let (algorithm, rest) = take_u8(rest)?;
-    let (key_length, rest) = take_u16(rest)?;
-    let (tag, rest) = take(rest, usize::from(tag_length))?;
-    let (key, servers) = take(rest, usize::from(key_length))?;
-    out.extend_from_slice(b" ")?;
-    print_decimal(u32::from(algorithm), out)?;
-    out.extend_from_slice(b" ")?;
+/// Appends the tag of a host's identity at the front, in hexadecimal digits, and gives what is left.
+///
+/// # Errors
+///
+/// `NoData` where no tag of one octet or more is there, and `OutOfMemory`.
+pub(crate) fn print_host_identity_tag<'o>(
+    octets: &'o [u8],
+    out: &mut Vec<u8>,
+) -> Result<&'o [u8], Unprinted>
+    ensures printed { IfOk result (λ rest.
+        PrintsFront PrintsHostIdentityTag StatesHostIdentityTag octets.now rest.now out.old.items
+        out.new.items) }
+    ensures none { IfErr result (IfNoData (NoFront StatesHostIdentityTag octets.now)) }
+{
+    let (tag, rest) = take_counted(octets)?;
+    if tag.is_empty() {
+        return Err(Unprinted::NoData);
+    }
     push_hex(tag, out)?;
-    out.extend_from_slice(b" ")?;
-    print_base64(key, out)?;
-    print_names(servers, out)
+    Ok(rest)
 }
 
-/// Appends names, a blank before each.
-fn print_names(octets: &[u8], out: &mut Vec<u8>) -> Result<(), Unprinted> {
-    let mut rest = octets;
-    while !rest.is_empty() {
-        out.extend_from_slice(b" ")?;
-        rest = print_name(rest, out)?;
+/// Appends the public key at the front, in base64, and gives what is left.
+///
+/// # Errors
+///
+/// `NoData` where no key of one octet or more is there, and `OutOfMemory`.
+pub(crate) fn print_public_key<'o>(
+    octets: &'o [u8],
+    out: &mut Vec<u8>,
+) -> Result<&'o [u8], Unprinted>
+    ensures printed { IfOk result (λ rest.
+        PrintsFront PrintsPublicKey StatesPublicKey octets.now rest.now out.old.items
+        out.new.items) }
+    ensures none { IfErr result (IfNoData (NoFront StatesPublicKey octets.now)) }
+{
+    let (len, rest) = take_u16(octets)?;
+    let (key, rest) = take(rest, usize::from(len))?;
+    if key.is_empty() {
+        return Err(Unprinted::NoData);
     }
-    Ok(())
+    print_base64(key, out)?;
+    Ok(rest)
 }

@@ -1,0 +1,105 @@
+//! The words that are printed for a type's data.
+ghost use Rattle.std.specs.Prelude.{◌≤◌, IfErr, OnOk, length, map};
+ghost use Rattle.zone_rdata.specs.Limits.{longest_data};
+ghost use Rattle.zone_words.specs.Machine.PrintedFields.{OnlyLastPrintsAll};
+ghost use Rattle.zone_words.specs.Parameters.Printed.{PrintsTouching};
+ghost use Rattle.zone_words.specs.Printed.{IfNoData};
+ghost use Rattle.zone_words.specs.PrintedData.{AreItsWords, AreOfAType, HasNoWords, NoItemsOf, PrintsData, PrintsFields};
+ghost use Rattle.zone_words.specs.Table.{field_of, of_amtrelay, of_code, of_hip, of_ipseckey};
+
+use crate::field::Field;
+use crate::fields::Fields;
+use crate::unprinted::Unprinted;
+
+/// The most octets of data (RFC 1035 3.2.1).
+const MOST: usize = 65_535;
+
+/// Puts the words of data in place of what `words` held, each after a blank but for an item that
+/// touches the one before it.
+///
+/// # Errors
+///
+/// `NoData` where no items state the octets as data of these fields, and `OutOfMemory`. `words` may
+/// have got some words.
+pub fn print_data(fields: Fields, octets: &[u8], words: &mut Vec<u8>) -> Result<(), Unprinted>
+    ensures printed { OnOk result
+        (AreItsWords (of_code fields) octets.now words.new.items) }
+    ensures none { IfErr result
+        (IfNoData (AreOfAType (of_code fields) → HasNoWords (of_code fields) octets.now)) }
+{
+    words.clear();
+    if octets.len() > MOST {
+        return Err(Unprinted::NoData);
+    }
+    match fields {
+        Fields::Same(fields) => print_fields(fields, octets, words),
+        Fields::Ipseckey => print_ipseckey(octets, words),
+        Fields::Amtrelay => print_amtrelay(octets, words),
+        Fields::Hip => print_hip(octets, words),
+    }
+}
+
+/// Appends the words of fields, one after another.
+///
+/// # Errors
+///
+/// `NoData` where no items state the octets as these fields, of which none but the last is printed
+/// for all octets that are left; and `OutOfMemory`.
+fn print_fields(fields: &[Field], octets: &[u8], out: &mut Vec<u8>) -> Result<(), Unprinted>
+    ensures printed { OnOk result (PrintsTouching (PrintsFields (map field_of fields.now))
+        octets.now out.old.items out.new.items) }
+    ensures none { IfErr result (IfNoData (OnlyLastPrintsAll (map field_of fields.now)
+        → NoItemsOf (map field_of fields.now) octets.now)) }
+{
+    let mut rest = octets;
+    for field in fields {
+        rest = field.1.print(rest, out)?;
+    }
+    if rest.is_empty() {
+        Ok(())
+    } else {
+        Err(Unprinted::NoData)
+    }
+}
+
+/// Appends the words of IPSECKEY data (RFC 4025 3.1).
+///
+/// # Errors
+///
+/// `NoData` where no items state the octets, and `OutOfMemory`.
+fn print_ipseckey(octets: &[u8], out: &mut Vec<u8>) -> Result<(), Unprinted>
+    requires { length octets.now ≤ longest_data }
+    ensures printed { OnOk result
+        (PrintsTouching (PrintsData of_ipseckey) octets.now out.old.items out.new.items) }
+    ensures none { IfErr result (IfNoData (HasNoWords of_ipseckey octets.now)) }
+{
+    Err(Unprinted::NoData)
+}
+
+/// Appends the words of AMTRELAY data (RFC 8777 4.3.1).
+///
+/// # Errors
+///
+/// `NoData` where no items state the octets, and `OutOfMemory`.
+fn print_amtrelay(octets: &[u8], out: &mut Vec<u8>) -> Result<(), Unprinted>
+    requires { length octets.now ≤ longest_data }
+    ensures printed { OnOk result
+        (PrintsTouching (PrintsData of_amtrelay) octets.now out.old.items out.new.items) }
+    ensures none { IfErr result (IfNoData (HasNoWords of_amtrelay octets.now)) }
+{
+    Err(Unprinted::NoData)
+}
+
+/// Appends the words of HIP data (RFC 8005 6).
+///
+/// # Errors
+///
+/// `NoData` where no items state the octets, and `OutOfMemory`.
+fn print_hip(octets: &[u8], out: &mut Vec<u8>) -> Result<(), Unprinted>
+    requires { length octets.now ≤ longest_data }
+    ensures printed { OnOk result
+        (PrintsTouching (PrintsData of_hip) octets.now out.old.items out.new.items) }
+    ensures none { IfErr result (IfNoData (HasNoWords of_hip octets.now)) }
+{
+    Err(Unprinted::NoData)
+}
