@@ -61,3 +61,4 @@ pub mod Registered
 mod HeadLines
 mod InWords
 mod GenericLines
+pub mod PrintedRows
