@@ -62,3 +62,4 @@ mod HeadLines
 mod InWords
 mod GenericLines
 pub mod PrintedRows
+pub mod PrintedStates

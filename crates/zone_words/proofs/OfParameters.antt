@@ -19,3 +19,4 @@ pub mod PrintedKeys
 pub mod Stops
 pub mod PrintedValues
 pub mod EachPrinted
+pub mod PrintedStated
