@@ -63,3 +63,7 @@ mod InWords
 mod GenericLines
 pub mod PrintedRows
 pub mod PrintedStates
+pub mod PrintedKinds
+pub mod PrintedFields
+pub mod PrintedEach
+pub mod PrintedInRow
