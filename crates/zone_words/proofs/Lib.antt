@@ -63,3 +63,5 @@ mod InWords
 mod GenericLines
 pub mod PrintedRows
 pub mod PrintedStates
+pub mod PrintedCount
+pub mod PrintedWords

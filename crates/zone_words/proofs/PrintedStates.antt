@@ -99,18 +99,18 @@ perhaps_states : (items : List RawItem) (octets : List ℕ) → PrintsPerhaps it
 perhaps_states [] octets printed = printed
 perhaps_states (item ∷ items) octets printed = string_item_states (item ∷ items) octets printed
 
-prefixes_printed_state : (items : List RawItem) (octets : List ℕ) → PrintsPrefixes items octets → StatesPrefixes items octets
+pub prefixes_printed_state : (items : List RawItem) (octets : List ℕ) → PrintsPrefixes items octets → StatesPrefixes items octets
 prefixes_printed_state items octets printed = printed
 
 -- ---- whether they touch or not
 
-alone_again : (items : List RawItem) → items_of (apart items) ≡ items
-alone_again [] = refl
-alone_again (item ∷ items) = ap (λ t. item ∷ t) (alone_again items)
+pub items_apart : (items : List RawItem) → items_of (apart items) ≡ items
+items_apart [] = refl
+items_apart (item ∷ items) = ap (λ t. item ∷ t) (items_apart items)
 
 apart_state : (Prints States : List RawItem → List ℕ → Type 0) → ((items : List RawItem) (octets : List ℕ) → Prints items octets → States items octets) → (items : List TouchingItem) (octets : List ℕ) → PrintsApart Prints items octets → States (items_of items) octets
 apart_state Prints States goes items octets printed =
-    subst (λ items. States items octets) (sym (ap items_of printed.are_apart ∙ alone_again printed.alone)) (goes printed.alone octets printed.printed)
+    subst (λ items. States items octets) (sym (ap items_of printed.are_apart ∙ items_apart printed.alone)) (goes printed.alone octets printed.printed)
 
 pub field_printed_states : (origin : Labels) (kind : FieldKind) (items : List TouchingItem) (octets : List ℕ) → PrintsField kind items octets → StatesField origin kind items octets
 field_printed_states origin (Bare kind) items octets printed = apart_state _ (FirstStates (StatesBare origin kind)) (one_bare_states origin kind) items octets printed
