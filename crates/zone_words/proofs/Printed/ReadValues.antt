@@ -10,7 +10,7 @@ use Rattle.zone_words.specs.FirstItem.{FirstStates}
 use Rattle.zone_words.specs.Kinds.Tag.{PrintsTag}
 use Rattle.zone_words.specs.Kinds.Value.{PrintsValue, StatesQuotedValue, StatesValue}
 
-value_unescaped : (octets : List ℕ) → AreOctets octets → Unescaped (inside_text octets) octets
+pub value_unescaped : (octets : List ℕ) → AreOctets octets → Unescaped (inside_text octets) octets
 value_unescaped [] each = record { units = []; each = tt; parts = refl; value = refl }
 value_unescaped (c ∷ octets) each =
     let first = printed_spells (c ∷ []) (record { short = omega arith; each = (each.0, tt) }) in
