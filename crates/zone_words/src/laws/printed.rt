@@ -1,7 +1,10 @@
 //! Laws of what is printed, over the definitions alone: the text of octets states these octets.
-ghost use Rattle.std.specs.Prelude.{List, ℕ};
+ghost use Rattle.std.specs.Prelude.{◌+◌, ◌<◌, List, length, ℕ};
 ghost use Rattle.zone_name.specs.Common.{Labels};
-ghost use Rattle.zone_rdata.specs.Item.{RawItem};
+ghost use Rattle.zone_rdata.specs.Item.{IsGeneric, RawItem};
+ghost use Rattle.zone_words.specs.Data.{StatesData, in_order};
+ghost use Rattle.zone_words.specs.DataItem.{TouchingItem, items_of};
+ghost use Rattle.zone_words.specs.Entry.{most_items};
 ghost use Rattle.zone_words.specs.FirstItem.{FirstStates};
 ghost use Rattle.zone_words.specs.Kinds.Address.{PrintsIpv4, PrintsIpv6, StatesIpv4, StatesIpv6};
 ghost use Rattle.zone_words.specs.Kinds.Base64.{PrintsBase64, StatesBase64};
@@ -18,6 +21,8 @@ ghost use Rattle.zone_words.specs.Kinds.Time.{PrintsTime, StatesTime};
 ghost use Rattle.zone_words.specs.Kinds.Types.{PrintsPerhapsTypes, PrintsTypes, StatesPerhapsTypes, StatesTypes};
 ghost use Rattle.zone_words.specs.Kinds.Value.{PrintsValue, StatesQuotedValue};
 ghost use Rattle.zone_words.specs.Kinds.Word.{PrintsAlgorithm, PrintsCertificateType, PrintsType, StatesAlgorithm, StatesCertificateType, StatesType};
+ghost use Rattle.zone_words.specs.PrintedData.{AreOfAType, PrintsData};
+ghost use Rattle.zone_words.specs.Table.{Fields, fields_in};
 
 /// The text that is printed for the octets of a kind states them, a name under every origin.
 pub fn printed_texts_state_their_octets()
@@ -55,4 +60,16 @@ pub fn printed_items_state_their_octets()
         → StatesLocation items octets }
     ensures value { (items : List RawItem) (octets : List ℕ) → PrintsValue items octets
         → FirstStates StatesQuotedValue items octets }
+{}
+
+/// The words that are printed for the data of a further type state it, under every origin. An entry
+/// with them never has too many items, and they aren't the generic form.
+pub fn printed_words_state_their_data()
+    ensures states { (fields : Fields) → AreOfAType fields → (items : List TouchingItem)
+        (octets : List ℕ) → PrintsData fields items octets → (origin : Labels)
+        → StatesData origin (fields_in fields items) (in_order fields) items octets }
+    ensures few { (fields : Fields) → AreOfAType fields → (items : List TouchingItem)
+        (octets : List ℕ) → PrintsData fields items octets → length items + 4 < most_items }
+    ensures in_words { (fields : Fields) → AreOfAType fields → (items : List TouchingItem)
+        (octets : List ℕ) → PrintsData fields items octets → IsGeneric (items_of items) → ⊥ }
 {}
