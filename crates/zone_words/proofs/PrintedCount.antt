@@ -1,6 +1,6 @@
 -- An entry with words that are printed never has too many items: a field has one, one for each octet
 -- at most, or those of types, of which there are 65,536.
-use Rattle.zone_words.proofs.Common.{AllByRecursion, AllZip, Bool, FurtherType, List, NamedField, None, Option, RawItem, Sent, Some, TouchingItem, [], and_parts, ap, arith, each_below, false, false≢true, flat_map, further_type, get_or, if◌then◌else◌, length, length-append, length-map, lit<, list_all, map, most_items, refl, sent_octets, suc, sym, true, wire, with_length, zero, ℕ, ◌&&◌, ◌+◌, ◌++◌, ◌<◌, ◌==◌, ◌∙◌, ◌∷◌, ◌≡◌, ◌≤◌}
+use Rattle.zone_words.proofs.Common.{AllByRecursion, AllZip, Bool, List, NamedField, None, Option, RawItem, Sent, Some, TouchingItem, [], and_parts, ap, arith, each_below, false, false≢true, flat_map, get_or, if◌then◌else◌, length, length-append, length-map, lit<, list_all, most_items, refl, sent_octets, suc, true, with_length, zero, ℕ, ◌&&◌, ◌+◌, ◌++◌, ◌<◌, ◌==◌, ◌∷◌, ◌≡◌, ◌≤◌}
 use Rattle.std.proofs.Common.{subst}
 use Rattle.std.specs.List.Sorted.{IsStrictlyIncreasing}
 use Rattle.zone_rdata.proofs.Common.{each_weaker}
@@ -12,14 +12,13 @@ use Rattle.zone_words.proofs.PrintedStates.{apart_count, last_prints_all, one_it
 use Rattle.zone_words.specs.Data.{in_order, joined, lengths_first}
 use Rattle.zone_words.specs.EachItem.{EachIsPrinted}
 use Rattle.zone_words.specs.Kinds.Location.{PrintsLocation}
-use Rattle.zone_words.specs.Kinds.Prefixes.{PrintsPrefixes, StatesPrefix, StatesPrefixes}
+use Rattle.zone_words.specs.Kinds.Prefixes.{StatesPrefix, StatesPrefixes}
 use Rattle.zone_words.specs.Kinds.Strings.{PrintsStrings}
 use Rattle.zone_words.specs.Kinds.Types.{PrintsPerhapsTypes, type_item}
-use Rattle.zone_words.specs.Machine.PrintedFields.{OnlyLastPrintsAll, prints_all}
+use Rattle.zone_words.specs.Machine.PrintedFields.{OnlyLastPrintsAll}
 use Rattle.zone_words.specs.Parameters.Printed.{PrintsParameter, PrintsParameters, ValueText, by_name, by_number, in_quotes, left_out, parameter_items, unquoted, usual_key}
 use Rattle.zone_words.specs.PrintedData.{AreOfAType, PrintParts, PrintsBare, PrintsData, PrintsField}
 use Rattle.zone_words.specs.Table.{Fields, fields_in, key_kind, number_at, of_amtrelay, of_hip, of_ipseckey, same}
-use Rattle.zone_words.specs.declared.field.BareKind.{BareKind}
 use Rattle.zone_words.specs.declared.field.BareKind.TheVariants.{Name}
 use Rattle.zone_words.specs.declared.field.FieldKind.{FieldKind}
 use Rattle.zone_words.specs.declared.field.FieldKind.TheVariants.{Bare, Base64, Each, Hex, Location, Nothing, OneString, Parameters, PerhapsOneString, PerhapsTypes, Prefixes, QuotedValue, Strings, Types, Value}

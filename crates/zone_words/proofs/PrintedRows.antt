@@ -1,6 +1,6 @@
 -- The fields of each row of the table: only the last may be printed for all octets that are left, and
 -- there are nine at most.
-use Rattle.zone_words.proofs.Common.{Bool, FurtherType, List, NamedField, Option, Some, [], and_parts, ap, arith, found_each, further_type, further_types, length, list_all, ltb-true, nat_lt, not, not-true, refl, sym, true, ℕ, ◌&&◌, ◌==◌, ◌∙◌, ◌∷◌, ◌≡◌, ◌≤◌}
+use Rattle.zone_words.proofs.Common.{Bool, FurtherType, List, NamedField, Some, [], and_parts, ap, arith, found_each, further_type, further_types, length, list_all, ltb-true, nat_lt, not, not-true, refl, sym, true, ◌&&◌, ◌==◌, ◌∙◌, ◌∷◌, ◌≡◌, ◌≤◌}
 use Rattle.zone_words.specs.Machine.PrintedFields.{OnlyLastPrintsAll, prints_all}
 use Rattle.zone_words.specs.Table.{Fields, same}
 

@@ -1,6 +1,5 @@
 -- What is printed for data states it, under every origin.
-use Rattle.zone_words.proofs.Common.{AllZip, IsDecimal, Labels, List, NamedField, RawItem, StateParts, StatesBare, StatesData, StatesField, StatesParameters, TouchingItem, [], ap, append-nil, arith, drop, false, false≢true, flat_map, items_after, length, length-append, length-map, map, min, own_count, own_items, placed, refl, subst, sym, take, takes_one, text_meaning, true, ℕ, ◌++◌, ◌∙◌, ◌∷◌, ◌≡◌, ◌≤◌}
-use Rattle.std.proofs.Common.{decimal}
+use Rattle.zone_words.proofs.Common.{AllZip, IsDecimal, Labels, List, NamedField, RawItem, StateParts, StatesBare, StatesData, StatesField, TouchingItem, [], ap, arith, drop, false, false≢true, items_after, length, length-append, length-map, map, min, own_count, own_items, placed, refl, subst, sym, take, text_meaning, true, ℕ, ◌++◌, ◌∙◌, ◌∷◌, ◌≡◌, ◌≤◌}
 use Rattle.std.proofs.Math.Seq.{drop-append_seam, take-append_seam}
 use Rattle.zone_rdata.proofs.Items.GenericLaws.{decimal-is}
 use Rattle.zone_rdata.proofs.Strings.StringLaws.{printed_spells}

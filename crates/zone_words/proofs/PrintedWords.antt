@@ -2,7 +2,7 @@
 use Rattle.base64.specs.Engines.{standard}
 use Rattle.base64.proofs.RoundTrip.{length-encode_symbols}
 use Rattle.base64.specs.Rfc4648.{encode_symbols, padding_len}
-use Rattle.zone_words.proofs.Common.{AllZip, Bool, IsDecimal, IsGeneric, IsMnemonic, IsNumbered, IsWordAmong, List, Named, NamedField, RawItem, TouchingItem, [], ap, append-nil, append_assoc, arith, by_mnemonic, by_number, bytes_eq, bytes_eq-Decides, certificate_types, codes, each_mnemonic, false, false≢true, flat_map, flat_map-append, folded_label, generic_mark, join_with_byte, length, length-append, length-map, length-replicate, list_all, map, not, not-true, refl, registered_types, replicate, subst, sym, true, ℕ, ◌++◌, ◌/◌, ◌<◌, ◌∙◌, ◌∷◌, ◌≡◌, ◌≢◌, ◌≤◌}
+use Rattle.zone_words.proofs.Common.{AllZip, Bool, IsDecimal, IsGeneric, IsMnemonic, IsWordAmong, List, Named, NamedField, RawItem, TouchingItem, [], ap, append-nil, append_assoc, arith, by_mnemonic, by_number, bytes_eq, bytes_eq-Decides, certificate_types, codes, each_mnemonic, false, false≢true, flat_map, folded_label, generic_mark, join_with_byte, length, length-append, length-map, length-replicate, list_all, map, not, not-true, refl, registered_types, replicate, subst, sym, true, ℕ, ◌++◌, ◌/◌, ◌<◌, ◌∙◌, ◌∷◌, ◌≡◌, ◌≢◌, ◌≤◌}
 use Rattle.std.proofs.Common.{decimal}
 use Rattle.zone_name.specs.Common.{Labels}
 use Rattle.zone_name.specs.Name.{folded_octet}
@@ -19,9 +19,9 @@ use Rattle.zone_words.specs.Kinds.Base64.{IsBase64, PrintsBase64}
 use Rattle.zone_words.specs.Kinds.Eui.{IsPair, StatesEui}
 use Rattle.zone_words.specs.Kinds.Location.{PrintsLocation, angle_at}
 use Rattle.zone_words.specs.Kinds.Prefixes.{StatesPrefixes, mark}
-use Rattle.zone_words.specs.Kinds.Strings.{PrintsStringItem, PrintsStrings}
-use Rattle.zone_words.specs.Machine.PrintedFields.{OnlyLastPrintsAll, prints_all}
-use Rattle.zone_words.specs.PrintedData.{AreOfAType, PrintParts, PrintsApart, PrintsBare, PrintsData, PrintsField, apart}
+use Rattle.zone_words.specs.Kinds.Strings.{PrintsStringItem}
+use Rattle.zone_words.specs.Machine.PrintedFields.{OnlyLastPrintsAll}
+use Rattle.zone_words.specs.PrintedData.{AreOfAType, PrintParts, PrintsApart, PrintsBare, PrintsData, PrintsField}
 use Rattle.zone_words.specs.Table.{Fields, fields_in, of_amtrelay, of_hip, of_ipseckey, same}
 use Rattle.zone_words.specs.declared.field.BareKind.{BareKind}
 use Rattle.zone_words.specs.declared.field.BareKind.TheVariants.{CertificateType, Eui48, Eui64, Name, RecordType, U8, U16, U32}

@@ -1,5 +1,5 @@
 -- Parameters that are printed state their octets.
-use Rattle.zone_words.proofs.Common.{AllByRecursion, AllByRecursion-append, AllZip, AreComplete, AreOnce, Ascend, AscendAbove, BeginWith, BeginWithTouchingQuote, Bool, IsNew, IsPermutation, IsPermutation-refl, IsShort, IsThere, Key, List, Numbered, Parameter, ParameterText, Sent, StateEach, StatesParameter, StatesParameters, TouchingItem, [], all_required, alone, ap, append_assoc, arith, bare_value, false, false≢true, flat_map, inl, inr, key_text, map, quoted_value, refl, sent, subst, sym, ℕ, ◌++◌, ◌<◌, ◌∙◌, ◌∷◌, ◌≡◌, ◌≢◌}
+use Rattle.zone_words.proofs.Common.{AllByRecursion, AllByRecursion-append, AllZip, AreOnce, Ascend, AscendAbove, BeginWith, BeginWithTouchingQuote, Bool, IsNew, IsPermutation, IsPermutation-refl, IsShort, IsThere, Key, List, Numbered, Parameter, ParameterText, Sent, StateEach, StatesParameter, StatesParameters, TouchingItem, [], all_required, alone, ap, arith, bare_value, false, false≢true, flat_map, inl, inr, key_text, map, quoted_value, refl, sent, subst, sym, ℕ, ◌++◌, ◌<◌, ◌∷◌, ◌≡◌, ◌≢◌}
 use Rattle.zone_rdata.proofs.Common.{each_weaker}
 use Rattle.zone_words.proofs.OfParameters.PrintedTexts.{key_octets, text_in, usual_number, value_printed}
 use Rattle.zone_words.specs.Parameters.Keys.{number_of}

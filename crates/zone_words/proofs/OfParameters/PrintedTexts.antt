@@ -1,5 +1,5 @@
 -- Texts of values that are printed state the octets of their keys.
-use Rattle.zone_words.proofs.Common.{AllByRecursion, AllByRecursion-append, AllByRecursion-back, AllByRecursion-front, AllZip, Alpn, AreOctets, Bool, DohPath, Ech, IsDecimal, IsKeyText, IsPermutation-refl, Ipv4Hint, Ipv6Hint, Key, List, ListsAddresses, ListsKeys, ListsProtocols, Mandatory, NoDefaultAlpn, Numbered, Ohttp, Port, Sent, StatesPath, Unescaped, [], and_parts, ap, arith, codes, false, flat_map, if◌then◌else◌, inl, inr, join_with_byte, key_text, length, list_all, listed, map, nat_tests, not, not-true, refl, subst, suc, sym, true, with_length, zero, ℕ, ◌&&◌, ◌++◌, ◌<◌, ◌==◌, ◌^◌, ◌∙◌, ◌∷◌, ◌≡◌, ◌≢◌, ◌||◌}
+use Rattle.zone_words.proofs.Common.{AllByRecursion, AllByRecursion-append, AllByRecursion-back, AllByRecursion-front, AllZip, Alpn, AreOctets, Bool, DohPath, Ech, IsDecimal, IsKeyText, IsPermutation-refl, Ipv4Hint, Ipv6Hint, Key, List, ListsAddresses, ListsKeys, ListsProtocols, Mandatory, NoDefaultAlpn, Numbered, Ohttp, Port, Sent, Unescaped, [], and_parts, ap, arith, codes, false, flat_map, if◌then◌else◌, inl, inr, join_with_byte, key_text, length, list_all, listed, map, nat_tests, not, refl, subst, suc, sym, true, with_length, zero, ℕ, ◌&&◌, ◌<◌, ◌==◌, ◌∙◌, ◌∷◌, ◌≡◌, ◌≢◌, ◌||◌}
 use Rattle.std.proofs.Common.{decimal}
 use Rattle.zone_name.specs.Spelling.{is_digit}
 use Rattle.zone_rdata.proofs.Addresses.AddressLaws.{ipv4_plain, ipv4_printed, ipv6_plain, ipv6_printed}
