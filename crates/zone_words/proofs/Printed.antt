@@ -18,3 +18,6 @@ pub mod Hashes
 pub mod ReadAgain
 pub mod ReadNames
 pub mod ReadValues
+pub mod Graphic
+pub mod GraphicTexts
+pub mod GraphicItems

@@ -118,7 +118,7 @@ place_value : (low : Bool) (n : ℕ) → nat_lt n 2147483648 ≡ low → n ≡ f
 place_value true n e = grind (arith, nat_tests)
 place_value false n e = grind (arith, nat_tests)
 
-few_thousandths : (axis : Axis) (n : ℕ) → IsPlace axis n → angle_at n ≤ 648000000
+pub few_thousandths : (axis : Axis) (n : ℕ) → IsPlace axis n → angle_at n ≤ 648000000
 few_thousandths Latitude n is = omega (arith, is)
 few_thousandths Longitude n is = is
 
@@ -144,7 +144,7 @@ altitude_by false n few e =
     let over : 10000000 ≤ n = grind (arith, nat_tests) in
     above (n - 10000000) (metres_scaled (n - 10000000) (omega arith)) (omega arith) (omega arith)
 
-size_few : (n : ℕ) → IsDigitAndPower n → n / 16 * 10 ^ (n % 16) ≤ 9000000000
+pub size_few : (n : ℕ) → IsDigitAndPower n → n / 16 * 10 ^ (n % 16) ≤ 9000000000
 size_few n is =
     let most : 10 ^ (n % 16) ≤ 1000000000 = pow-le-pow_right {n = 10} (omega arith) {i = n % 16} {j = 9} (omega (arith, is.1.0)) in
     let nine : n / 16 * 10 ^ (n % 16) ≤ 9 * 10 ^ (n % 16) = mul-le-mul_right (10 ^ (n % 16)) is.0 in
@@ -201,7 +201,7 @@ location_printed_states items octets (l, (is, (are, value))) =
 
 -- ---- what is printed stands as it is printed
 
-digit_bare : (n : ℕ) → is_bare (last_digit n) ≡ true
+pub digit_bare : (n : ℕ) → is_bare (last_digit n) ≡ true
 digit_bare n = grind (arith, nat_tests)
 
 seconds_stand : (n : ℕ) → n < 60000 → StandsBare (seconds n)
