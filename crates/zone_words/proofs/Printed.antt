@@ -18,3 +18,4 @@ pub mod Hashes
 pub mod ReadAgain
 pub mod ReadNames
 pub mod ReadValues
+pub mod Prefixes
