@@ -14,6 +14,7 @@ ghost use Rattle.zone_words.specs.Kinds.Location.{PrintsLocation, StatesLocation
 ghost use Rattle.zone_words.specs.Kinds.Name.{PrintsName, StatesName};
 ghost use Rattle.zone_words.specs.Kinds.NodeId.{PrintsNodeId, StatesNodeId};
 ghost use Rattle.zone_words.specs.Kinds.Number.{PrintsU16, PrintsU32, PrintsU8, StatesU16, StatesU32, StatesU8};
+ghost use Rattle.zone_words.specs.Kinds.Prefixes.{PrintsPrefixes, StatesPrefixes};
 ghost use Rattle.zone_words.specs.Kinds.Salt.{PrintsSalt, StatesSalt};
 ghost use Rattle.zone_words.specs.Kinds.Strings.{PrintsStrings, StatesStrings};
 ghost use Rattle.zone_words.specs.Kinds.Tag.{PrintsTag, StatesTag};
@@ -59,6 +60,8 @@ pub fn printed_items_state_their_octets()
         → StatesTypes items octets }
     ensures perhaps_types { (items : List RawItem) (octets : List ℕ) → PrintsPerhapsTypes items octets
         → StatesPerhapsTypes items octets }
+    ensures prefixes { (items : List RawItem) (octets : List ℕ) → PrintsPrefixes items octets
+        → StatesPrefixes items octets }
     ensures location { (items : List RawItem) (octets : List ℕ) → PrintsLocation items octets
         → StatesLocation items octets }
     ensures value { (items : List RawItem) (octets : List ℕ) → PrintsValue items octets
