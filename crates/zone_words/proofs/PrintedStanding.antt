@@ -5,7 +5,7 @@ use Rattle.zone_rdata.proofs.Common.{each_weaker}
 use Rattle.zone_rdata.specs.Item.{bare, quoted}
 use Rattle.zone_rdata.specs.Text.{written_item}
 use Rattle.std.proofs.Common.{rules}
-use Rattle.zone_words.proofs.Common.{All-from_recursion, AllByRecursion, AllByRecursion-append, Bool, IsUnit, List, NamedField, RawItem, TouchingItem, Written, [], arith, ends_item, false, flat_map, if◌then◌else◌, map, placed, refl, subst, sym, true, ℕ, ◌++◌, ◌∷◌, ◌≡◌}
+use Rattle.zone_words.proofs.Common.{All-from_recursion, AllByRecursion, AllByRecursion-append, Bool, IsUnit, List, NamedField, RawItem, TouchingItem, Written, [], arith, ends_item, false, if◌then◌else◌, subst, sym, true, ℕ, ◌∷◌}
 use Rattle.zone_words.proofs.Printed.Graphic.{AreGraphic, IsGraphic, IsGraphicItem}
 use Rattle.zone_words.proofs.Printed.GraphicItems.{AreGraphicItems, each_graphic, location_graphic, one_graphic, perhaps_graphic, string_graphic, strings_graphic, types_graphic, value_graphic}
 use Rattle.zone_words.proofs.Printed.GraphicParameters.{IsGraphicBehind, parameters_graphic}

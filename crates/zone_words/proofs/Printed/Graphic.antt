@@ -1,6 +1,5 @@
 -- Texts that stand on a line as they are printed, of octets that a terminal shows.
 use Rattle.std.specs.Prelude.{decimal}
-use Rattle.std.proofs.Common.{slice_index}
 use Rattle.zone_name.proofs.Texts.Bare.{StandsBare, bare_append, bare_octets, is_bare}
 use Rattle.zone_rdata.proofs.Common.{IsAddressOctet, StandsInQuotes, each_weaker}
 use Rattle.zone_rdata.proofs.Items.GenericLaws.{decimal-is}
@@ -9,7 +8,7 @@ use Rattle.zone_rdata.proofs.Texts.Standing.{are_bare, bare_tested}
 use Rattle.zone_rdata.specs.Item.{bare, quoted}
 use Rattle.zone_rdata.specs.Strings.{inside_text, is_quote, is_shown, unit_text}
 use Rattle.zone_rdata.specs.Words.{word_or_numbered}
-use Rattle.zone_words.proofs.Common.{All-from_recursion, AllByRecursion, AllByRecursion-append, AllPass-from_list_all, AreOctets, Bool, IsUnit, List, Named, None, Option, RawItem, Some, [], and_parts, append-nil, arith, cases_lt, each_mnemonic, encode_lower, encode_with, false, flat_map-append, if◌then◌else◌, join_with_byte, length, list_all, lower_digits, mnemonic_among, nat_lt, nat_tests, recursion_from_All, refl, subst, sym, true, ℕ, ◌%◌, ◌++◌, ◌+◌, ◌/◌, ◌<◌, ◌==◌, ◌^◌, ◌||◌, ◌∷◌, ◌≡◌, ◌≤◌, ◌≢◌}
+use Rattle.zone_words.proofs.Common.{All-from_recursion, AllByRecursion, AllByRecursion-append, AllPass-from_list_all, AreOctets, Bool, IsUnit, List, Named, None, Option, RawItem, Some, [], and_parts, append-nil, arith, each_mnemonic, encode_lower, encode_with, false, flat_map-append, if◌then◌else◌, join_with_byte, length, list_all, lower_digits, mnemonic_among, nat_lt, nat_tests, recursion_from_All, refl, subst, true, ℕ, ◌%◌, ◌++◌, ◌+◌, ◌/◌, ◌<◌, ◌==◌, ◌^◌, ◌||◌, ◌∷◌, ◌≡◌, ◌≤◌, ◌≢◌}
 
 -- spaces and the graphic octets of ASCII
 abbrev pub IsGraphic : ℕ → Type 0

@@ -2,15 +2,13 @@
 -- shows.
 use Rattle.zone_rdata.specs.Item.{bare, quoted}
 use Rattle.zone_rdata.specs.Strings.{IsString, inside_text}
-use Rattle.zone_words.proofs.Common.{AllByRecursion, AllZip, Bool, IsKind, List, RawItem, [], arith, false, if◌then◌else◌, map, nat_lt, refl, subst, sym, true, ℕ, ◌%◌, ◌*◌, ◌++◌, ◌-◌, ◌/◌, ◌<◌, ◌==◌, ◌^◌, ◌∷◌, ◌≡◌}
+use Rattle.zone_words.proofs.Common.{AllByRecursion, AllZip, Bool, IsKind, List, RawItem, [], arith, false, if◌then◌else◌, map, nat_lt, nat_tests, refl, subst, sym, true, ℕ, ◌%◌, ◌*◌, ◌++◌, ◌-◌, ◌/◌, ◌<◌, ◌==◌, ◌^◌, ◌∷◌, ◌≡◌}
 use Rattle.zone_name.proofs.Texts.Bare.{is_bare}
 use Rattle.std.specs.Prelude.{decimal}
 use Rattle.zone_words.proofs.Printed.Graphic.{IsGraphicItem, IsGraphicText, graphic_append, graphic_decimal, graphic_inside, graphic_octets, graphic_tested}
-use Rattle.zone_words.proofs.Printed.GraphicTexts.{bare_text_graphic, base64_graphic, lower_graphic, type_graphic}
-use Rattle.zone_words.proofs.Printed.Location.{digit_bare, few_thousandths, size_few}
+use Rattle.zone_words.proofs.Printed.GraphicTexts.{bare_text_graphic, type_graphic}
+use Rattle.zone_words.proofs.Printed.Location.{few_thousandths, size_few}
 use Rattle.zone_words.specs.EachItem.{EachIsPrinted}
-use Rattle.zone_words.specs.Kinds.Base64.{IsBase64}
-use Rattle.zone_words.specs.Kinds.Hex.{IsLowerHex}
 use Rattle.zone_words.specs.Kinds.Joined.{PrintsOneItem}
 use Rattle.zone_words.specs.Kinds.Location.{IsDigitAndPower, IsPlace, PrintsLocation, altitude_text, angle_at, capital_letter, half_at, hundredths, last_digit, metres, place_items, seconds, size_text}
 use Rattle.zone_words.specs.Kinds.Strings.{PrintsPerhaps, PrintsStringItem, PrintsStrings}
@@ -66,6 +64,9 @@ pub strings_graphic : (items : List RawItem) (octets : List ℕ) → PrintsStrin
 strings_graphic items octets p = subst AreGraphicItems (sym p.printed) (each_string p.strings p.are.each)
 
 -- ---- locations
+
+digit_bare : (n : ℕ) → is_bare (last_digit n) ≡ true
+digit_bare n = grind (arith, nat_tests)
 
 seconds_graphic : (n : ℕ) → n < 60000 → IsGraphicText (seconds n)
 seconds_graphic n few = graphic_append (decimal (n / 1000)) (46 ∷ last_digit (n / 100) ∷ last_digit (n / 10) ∷ last_digit n ∷ []) (graphic_decimal (n / 1000) (omega arith)) (graphic_octets (46 ∷ last_digit (n / 100) ∷ last_digit (n / 10) ∷ last_digit n ∷ []) (omega arith) (refl, (digit_bare (n / 100), (digit_bare (n / 10), (digit_bare n, tt)))))

@@ -1,11 +1,7 @@
 -- Parameters that are printed stand on a line as they are, of octets that a terminal shows.
-use Rattle.base64.specs.Engines.{standard}
-use Rattle.base64.specs.GeneralPurpose.{encode_of}
 use Rattle.std.specs.Prelude.{decimal}
 use Rattle.zone_rdata.specs.Address.{ipv4_text, ipv6_text}
-use Rattle.zone_rdata.specs.Item.{bare, quoted}
-use Rattle.zone_rdata.specs.Strings.{inside_text}
-use Rattle.zone_words.proofs.Common.{AllByRecursion, AllByRecursion-append, AllByRecursion-back, AllByRecursion-front, AllZip, Alpn, AreOctets, Bool, DohPath, Ech, IsProtocol, Ipv4Hint, Ipv6Hint, Key, List, Mandatory, NoDefaultAlpn, Numbered, Ohttp, Port, Sent, TouchingItem, [], arith, cases_lt, codes, false, flat_map, get_or, if◌then◌else◌, inl, inr, join_with_byte, key_text, length, map, placed, refl, subst, suc, sym, true, with_length, zero, ℕ, ◌++◌, ◌<◌, ◌==◌, ◌^◌, ◌||◌, ◌∷◌, ◌≡◌}
+use Rattle.zone_words.proofs.Common.{AllByRecursion, AllByRecursion-append, AllByRecursion-back, AllByRecursion-front, AllZip, Alpn, AreOctets, Bool, DohPath, Ech, Ipv4Hint, Ipv6Hint, Key, List, Mandatory, Numbered, Port, Sent, TouchingItem, [], arith, codes, false, flat_map, if◌then◌else◌, inl, inr, join_with_byte, key_text, length, map, refl, subst, suc, sym, true, with_length, zero, ℕ, ◌<◌, ◌==◌, ◌||◌, ◌∷◌, ◌≡◌}
 use Rattle.zone_words.proofs.Printed.Graphic.{IsGraphicInside, IsGraphicItem, IsGraphicText, graphic_append, graphic_decimal, graphic_inside, graphic_join, graphic_tested}
 use Rattle.zone_words.proofs.Printed.GraphicTexts.{encoded_graphic, ipv4_graphic, ipv6_graphic}
 use Rattle.zone_words.specs.Parameters.Printed.{IsAmong, IsSendable, PrintsAddresses, PrintsKeys, PrintsParameter, PrintsParameters, PrintsPort, PrintsProtocols, PrintsValue, ValueText, by_name, by_number, in_quotes, left_out, parameter_items, unquoted, usual_key}

@@ -1,24 +1,17 @@
 -- Prefixes that are printed stand outside quotes, of octets that a terminal shows.
 use Rattle.std.proofs.Common.{decimal}
 use Rattle.zone_rdata.specs.Item.{bare, quoted}
-use Rattle.zone_words.proofs.Common.{AllByRecursion, Bool, List, RawItem, [], arith, false, length, refl, subst, sym, true, ℕ, ◌*◌, ◌++◌, ◌<◌, ◌^◌, ◌∷◌, ◌≡◌, ◌≤◌}
+use Rattle.zone_words.proofs.Common.{AllByRecursion, Bool, List, RawItem, [], false, refl, subst, sym, true, ℕ, ◌++◌, ◌∷◌}
 use Rattle.zone_words.proofs.Printed.Graphic.{IsGraphicItem, IsGraphicText, graphic_append, graphic_decimal, graphic_tested}
 use Rattle.zone_words.proofs.Printed.GraphicTexts.{ipv4_graphic, ipv6_graphic}
-use Rattle.zone_words.specs.Kinds.Prefixes.{IsAddress, PrintsPrefix, PrintsPrefixItem, PrintsPrefixes, address_text, family_of, mark, octets_of}
+use Rattle.zone_words.proofs.Printed.Prefixes.{short_bits, short_family}
+use Rattle.zone_words.specs.Kinds.Prefixes.{IsAddress, PrintsPrefix, PrintsPrefixItem, PrintsPrefixes, address_text, family_of, mark}
 use Rattle.zone_words.specs.declared.kinds.prefixes.Address.{Address}
 use Rattle.zone_words.specs.declared.kinds.prefixes.Address.TheVariants.{Ipv4, Ipv6}
 
 address_graphic : (a : Address) → IsAddress a → IsGraphicText (address_text a)
 address_graphic (Ipv4 octets) is = ipv4_graphic octets is.0 is.1
 address_graphic (Ipv6 octets) is = ipv6_graphic octets is.0 is.1
-
-short_family : (a : Address) → family_of a < 2 ^ 64
-short_family (Ipv4 octets) = omega arith
-short_family (Ipv6 octets) = omega arith
-
-short_bits : (n : ℕ) (a : Address) → IsAddress a → n ≤ 8 * length (octets_of a) → n < 2 ^ 64
-short_bits n (Ipv4 octets) is few = omega (arith, is.0)
-short_bits n (Ipv6 octets) is few = omega (arith, is.0)
 
 marked_graphic : (negated : Bool) (text : List ℕ) → IsGraphicText text → IsGraphicText (mark negated ++ text)
 marked_graphic true text is = graphic_append (mark true) text (graphic_tested (mark true) refl) is

@@ -11,20 +11,19 @@ use Rattle.zone_rdata.proofs.Addresses.AddressLaws.{ipv4_plain, ipv4_printed, ip
 use Rattle.zone_rdata.proofs.Addresses.AddressParts.{ipv4_some}
 use Rattle.zone_rdata.proofs.Common.{each_weaker}
 use Rattle.zone_rdata.specs.Address.{ipv4_text, ipv6_text}
-use Rattle.zone_words.proofs.Common.{All-from_recursion, AllByRecursion, AllByRecursion-append, AllByRecursion-back, AllByRecursion-front, AllZip, AreOctets, Bool, IsKind, Labels, List, Some, Width, [], append-nil, arith, byte_len, certificate_types, codes, encode_lower, false, flat_map, if◌then◌else◌, join_with_byte, length, length_all_zip, map, mnemonic_among, nat_tests, refl, registered_types, replicate, subst, suc, sym, true, w16, w32, w8, zero, ℕ, ◌%◌, ◌*◌, ◌++◌, ◌+◌, ◌/◌, ◌<◌, ◌^◌, ◌∷◌, ◌≡◌, ◌≤◌}
+use Rattle.zone_words.proofs.Common.{All-from_recursion, AllByRecursion, AllByRecursion-append, AllByRecursion-back, AllByRecursion-front, AllZip, AreOctets, Bool, Labels, List, Some, Width, [], arith, byte_len, certificate_types, codes, encode_lower, false, flat_map, if◌then◌else◌, length, length_all_zip, map, mnemonic_among, nat_tests, refl, registered_types, replicate, subst, suc, sym, true, w16, w32, w8, zero, ℕ, ◌%◌, ◌*◌, ◌+◌, ◌/◌, ◌<◌, ◌^◌, ◌∷◌, ◌≡◌, ◌≤◌}
 use Rattle.zone_words.proofs.Printed.Graphic.{AreBare, AreGraphic, IsGraphic, IsGraphicText, graphic_address, graphic_append, graphic_decimal, graphic_hex, graphic_join, graphic_octets, graphic_tested, graphic_word, tested_bare}
+use Rattle.zone_words.proofs.Printed.Numbers.{short}
 use Rattle.zone_words.proofs.Printed.ReadNames.{name_printed_stands}
-use Rattle.zone_words.specs.Kinds.Address.{PrintsIpv4, PrintsIpv6}
 use Rattle.zone_words.specs.Kinds.Base64.{IsBase64}
-use Rattle.zone_words.specs.Kinds.Eui.{PrintsEui, eui_text}
-use Rattle.zone_words.specs.Kinds.Gateway.{PrintsUpTo, StatesNoAddress}
+use Rattle.zone_words.specs.Kinds.Eui.{PrintsEui}
+use Rattle.zone_words.specs.Kinds.Gateway.{PrintsUpTo}
 use Rattle.zone_words.specs.Kinds.Hash.{PrintsHash, base32_digit}
 use Rattle.zone_words.specs.Kinds.Hex.{IsLowerHex}
-use Rattle.zone_words.specs.Kinds.HostIdentity.{PrintsHostIdentityTag, PrintsPublicKey}
 use Rattle.zone_words.specs.Kinds.Name.{PrintsName}
 use Rattle.zone_words.specs.Kinds.NodeId.{PrintsNodeId}
 use Rattle.zone_words.specs.Kinds.Number.{PrintsNumber}
-use Rattle.zone_words.specs.Kinds.Salt.{IsPrintedSalt, PrintsSalt, digits, no_octets}
+use Rattle.zone_words.specs.Kinds.Salt.{IsPrintedSalt, digits, no_octets}
 use Rattle.zone_words.specs.Kinds.Tag.{PrintsTag}
 use Rattle.zone_words.specs.Kinds.Time.{PrintsTime}
 use Rattle.zone_words.specs.Kinds.Word.{PrintsCertificateType, PrintsType, type_word}
@@ -33,9 +32,6 @@ use Rattle.zone_words.specs.declared.field.BareKind.{BareKind}
 use Rattle.zone_words.specs.declared.field.BareKind.TheVariants.{AddressType, Algorithm, CertificateType, Discovery, Eui48, Eui64, Hash, HostIdentityTag, Ipv4, Ipv6, Name, NoAddress, NodeId, PublicKey, RecordType, Salt, Tag, Time, U16, U32, U8}
 
 -- ---- numbers
-
-short : (w : Width) (n : ℕ) → 256 ^ byte_len w ≤ 2 ^ 64 → n < 256 ^ byte_len w → n < 2 ^ 64
-short w n small fits = omega (arith, small, fits)
 
 number_graphic : (w : Width) (text octets : List ℕ) → 256 ^ byte_len w ≤ 2 ^ 64 → PrintsNumber w text octets → IsGraphicText text
 number_graphic w text octets small p = subst IsGraphicText (sym p.stated) (graphic_decimal p.number (short w p.number small p.fits))

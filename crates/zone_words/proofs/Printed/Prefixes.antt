@@ -2,17 +2,14 @@
 use Rattle.std.proofs.Common.{decimal}
 use Rattle.std.proofs.lemmas.Nat.{from_be_bytes-to_be_bytes_2}
 use Rattle.std.specs.Int.{from_be_bytes}
-use Rattle.zone_name.proofs.Texts.Bare.{StandsBare, bare_append}
 use Rattle.zone_rdata.proofs.Addresses.AddressLaws.{ipv4_printed, ipv6_printed}
 use Rattle.zone_rdata.proofs.Addresses.AddressOctets.{ipv4_bytes, ipv4_count, ipv6_bytes, ipv6_count}
 use Rattle.zone_rdata.proofs.Items.GenericLaws.{decimal-is}
 use Rattle.zone_rdata.proofs.Octets.Sent.{append_same}
-use Rattle.zone_rdata.proofs.Texts.Standing.{IsPrintedItem, bare_decimal, bare_tested}
 use Rattle.zone_rdata.specs.Item.{bare, quoted}
 use Rattle.zone_rdata.specs.Text.{written_item}
-use Rattle.zone_words.proofs.Common.{AllByRecursion, Bool, List, NothingIs, RawItem, [], ap, append-nil, append_assoc, arith, false, flat_map-append, get_or, get_or_append_left, length, length-append, nil_from_length, refl, replicate, subst, sym, to_be_bytes, true, w16, ℕ, ◌%◌, ◌*◌, ◌++◌, ◌+◌, ◌<◌, ◌^◌, ◌∙◌, ◌∷◌, ◌≡◌, ◌≤◌}
-use Rattle.zone_words.proofs.Printed.Addresses.{ipv4_printed_stands, ipv6_printed_stands}
-use Rattle.zone_words.specs.Kinds.Prefixes.{IsAPrefix, IsAddress, IsAddressText, IsPrefixOctets, IsTrimmed, PrintsPrefix, PrintsPrefixItem, PrintsPrefixes, StatesPrefix, StatesPrefixes, address_text, family_of, mark, octets_of, prefix_text, sign}
+use Rattle.zone_words.proofs.Common.{Bool, List, NothingIs, RawItem, [], ap, append-nil, append_assoc, arith, false, flat_map-append, get_or, get_or_append_left, length, length-append, nil_from_length, refl, replicate, subst, sym, to_be_bytes, true, w16, ℕ, ◌%◌, ◌*◌, ◌++◌, ◌+◌, ◌<◌, ◌^◌, ◌∙◌, ◌∷◌, ◌≡◌, ◌≤◌}
+use Rattle.zone_words.specs.Kinds.Prefixes.{IsAPrefix, IsAddress, IsAddressText, IsPrefixOctets, IsTrimmed, PrintsPrefix, PrintsPrefixItem, PrintsPrefixes, StatesPrefix, StatesPrefixes, address_text, family_of, octets_of, prefix_text, sign}
 use Rattle.zone_words.specs.Machine.Prefixes.{BeginsWithPrefix, IsAddressIn}
 use Rattle.zone_words.specs.Printed.{NoFront, NoItems, PrintsAll, PrintsFront, after_blanks}
 use Rattle.zone_words.specs.declared.kinds.prefixes.Address.{Address}
@@ -44,16 +41,12 @@ printed_address : (a : Address) → IsAddress a → IsAddressText (address_text 
 printed_address (Ipv4 octets) is = ipv4_printed octets is.0 is.1
 printed_address (Ipv6 octets) is = ipv6_printed octets is.0 is.1
 
-address_stands : (a : Address) → IsAddress a → StandsBare (address_text a)
-address_stands (Ipv4 octets) is = ipv4_printed_stands (address_text (Ipv4 octets)) octets (record { four = is.0; each = is.1; canonical = refl })
-address_stands (Ipv6 octets) is = ipv6_printed_stands (address_text (Ipv6 octets)) octets (record { sixteen = is.0; each = is.1; canonical = refl })
+-- ---- what is printed states the octets
 
--- ---- what is printed states the octets, and stands outside quotes
-
-short_family : (a : Address) → family_of a < 2 ^ 64
+pub short_family : (a : Address) → family_of a < 2 ^ 64
 short_family a = omega (arith, family_small a)
 
-short_bits : (n : ℕ) (a : Address) → IsAddress a → n ≤ 8 * length (octets_of a) → n < 2 ^ 64
+pub short_bits : (n : ℕ) (a : Address) → IsAddress a → n ≤ 8 * length (octets_of a) → n < 2 ^ 64
 short_bits n a is few = omega (arith, address_small a is)
 
 pub prefix_printed_states : (text octets : List ℕ) → PrintsPrefix text octets → IsAPrefix text octets
@@ -83,28 +76,6 @@ pub prefixes_printed_state : (items : List RawItem) (octets : List ℕ) → Prin
 prefixes_printed_state [] octets are = are
 prefixes_printed_state (item ∷ items) octets are =
     (are.0, are.1, (item_printed_states item are.0 are.2.0, (prefixes_printed_state items are.1 are.2.1.0, are.2.1.1)))
-
-marked_stands : (negated : Bool) (text : List ℕ) → StandsBare text → StandsBare (mark negated ++ text)
-marked_stands true text stands = bare_append (mark true) text (bare_tested (mark true) refl) stands
-marked_stands false text stands = stands
-
-pub prefix_stands : (text octets : List ℕ) → PrintsPrefix text octets → StandsBare text
-prefix_stands text octets p =
-    let a : Address = p.prefix.address in
-    let family : StandsBare (decimal (family_of a)) = bare_decimal (family_of a) (short_family a) in
-    let bits : StandsBare (decimal p.prefix.bits) = bare_decimal p.prefix.bits (short_bits p.prefix.bits a p.address p.few) in
-    let address : StandsBare (58 ∷ address_text a) = bare_append (58 ∷ []) (address_text a) (bare_tested (58 ∷ []) refl) (address_stands a p.address) in
-    let len : StandsBare (47 ∷ decimal p.prefix.bits) = bare_append (47 ∷ []) (decimal p.prefix.bits) (bare_tested (47 ∷ []) refl) bits in
-    let front : StandsBare (mark p.prefix.negated ++ (decimal (family_of a) ++ 58 ∷ address_text a)) = marked_stands p.prefix.negated (decimal (family_of a) ++ 58 ∷ address_text a) (bare_append (decimal (family_of a)) (58 ∷ address_text a) family address) in
-    subst StandsBare (sym p.printed) (bare_append (mark p.prefix.negated ++ (decimal (family_of a) ++ 58 ∷ address_text a)) (47 ∷ decimal p.prefix.bits) front len)
-
-item_stands : (item : RawItem) (octets : List ℕ) → PrintsPrefixItem item octets → IsPrintedItem item
-item_stands (bare text) octets is = prefix_stands text octets is
-item_stands (quoted text) octets is = absurd is
-
-pub prefixes_stand : (items : List RawItem) (octets : List ℕ) → PrintsPrefixes items octets → AllByRecursion IsPrintedItem items
-prefixes_stand [] octets are = tt
-prefixes_stand (item ∷ items) octets are = (item_stands item are.0 are.2.0, prefixes_stand items are.1 are.2.1.0)
 
 -- ---- how many there are
 
