@@ -54,9 +54,9 @@ mandatory_graphic parameters text octets each p =
 addresses_graphic : (size : ℕ) (address_text : List ℕ → List ℕ) → ((octets : List ℕ) → length octets ≡ size → AreOctets octets → IsGraphicText (address_text octets)) → (addresses : List (List ℕ)) → AllByRecursion (λ address. length address ≡ size) addresses → AreOctets (flat_map (λ address. address) addresses) → AllByRecursion IsGraphicText (map address_text addresses)
 addresses_graphic size address_text goes [] each low = tt
 addresses_graphic size address_text goes (address ∷ addresses) each low = (
-    goes address each.0 (AllByRecursion-front (λ c. c < 256) address (flat_map (λ a. a) addresses) low),
-    addresses_graphic size address_text goes addresses each.1 (AllByRecursion-back (λ c. c < 256) address (flat_map (λ a. a) addresses) low),
-  )
+  goes address each.0 (AllByRecursion-front (λ c. c < 256) address (flat_map (λ a. a) addresses) low),
+  addresses_graphic size address_text goes addresses each.1 (AllByRecursion-back (λ c. c < 256) address (flat_map (λ a. a) addresses) low),
+)
 
 some_addresses : (address_text : List ℕ → List ℕ) (addresses : List (List ℕ)) → 0 < length addresses → 0 < length (map address_text addresses)
 some_addresses address_text [] some = absurd (omega arith)
@@ -116,16 +116,16 @@ value_graphic parameters key (in_quotes text) octets each low p = absurd p
 items_graphic : (key : Key) (text : ValueText) → IsGraphicText (key_text key) → IsGraphicValue text → AllByRecursion IsGraphicBehind (parameter_items key text)
 items_graphic key left_out name value = (record { item = name; parted = λ e. absurd cc }, tt)
 items_graphic key (unquoted text) name value = (
-    record {
-      item = graphic_append (key_text key) (61 ∷ text) name (graphic_append (61 ∷ []) text (graphic_tested (61 ∷ []) refl) value);
-      parted = λ e. absurd cc;
-    },
-    tt,
-  )
+  record {
+    item = graphic_append (key_text key) (61 ∷ text) name (graphic_append (61 ∷ []) text (graphic_tested (61 ∷ []) refl) value);
+    parted = λ e. absurd cc;
+  },
+  tt,
+)
 items_graphic key (in_quotes text) name value = (
-    record { item = graphic_append (key_text key) (61 ∷ []) name (graphic_tested (61 ∷ []) refl); parted = λ e. absurd cc },
-    (record { item = value; parted = λ e. tt }, tt),
-  )
+  record { item = graphic_append (key_text key) (61 ∷ []) name (graphic_tested (61 ∷ []) refl); parted = λ e. absurd cc },
+  (record { item = value; parted = λ e. tt }, tt),
+)
 
 parameter_graphic : (parameters : List Sent) (s : Sent) (items : List TouchingItem) → AllByRecursion IsSendable parameters → IsSendable s → PrintsParameter parameters s items → AllByRecursion IsGraphicBehind items
 parameter_graphic parameters s _ each own (by_name text value) =

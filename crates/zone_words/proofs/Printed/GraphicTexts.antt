@@ -148,9 +148,9 @@ eui_graphic count text octets some p =
 groups_graphic : (groups : List (List ℕ)) → AllByRecursion (λ group. length group ≡ 2) groups → AreOctets (flat_map (λ group. group) groups) → AllByRecursion IsGraphicText (map encode_lower groups)
 groups_graphic [] two each = tt
 groups_graphic (group ∷ groups) two each = (
-    graphic_hex group (omega (arith, two.0)) (AllByRecursion-front (λ c. c < 256) group (flat_map (λ g. g) groups) each),
-    groups_graphic groups two.1 (AllByRecursion-back (λ c. c < 256) group (flat_map (λ g. g) groups) each),
-  )
+  graphic_hex group (omega (arith, two.0)) (AllByRecursion-front (λ c. c < 256) group (flat_map (λ g. g) groups) each),
+  groups_graphic groups two.1 (AllByRecursion-back (λ c. c < 256) group (flat_map (λ g. g) groups) each),
+)
 
 some_groups : (groups : List (List ℕ)) → 0 < length groups → 0 < length (map encode_lower groups)
 some_groups [] some = absurd (omega arith)
