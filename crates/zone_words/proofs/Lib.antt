@@ -22,6 +22,7 @@ mod JoinedItems
 mod LengthsBefore
 mod PassedFaults
 pub mod Printed
+pub mod PrintedStanding
 mod Numbers
 mod TypeWords
 mod MnemonicOf

@@ -7,8 +7,9 @@ use Rattle.zone_rdata.proofs.Common.{each_weaker}
 use Rattle.zone_rdata.specs.Item.{bare, quoted}
 use Rattle.zone_rdata.specs.Strings.{inside_text}
 use Rattle.zone_rdata.specs.Words.{IsKind}
+use Rattle.zone_words.proofs.Printed.Prefixes.{prefixes_printed_state}
 use Rattle.zone_words.proofs.PrintedRows.{nine_fields, passed}
-use Rattle.zone_words.proofs.PrintedStates.{apart_count, last_prints_all, one_item, perhaps_one, prefixes_printed_state}
+use Rattle.zone_words.proofs.PrintedStates.{apart_count, last_prints_all, one_item, perhaps_one}
 use Rattle.zone_words.specs.Data.{in_order, joined, lengths_first}
 use Rattle.zone_words.specs.EachItem.{EachIsPrinted}
 use Rattle.zone_words.specs.Kinds.Location.{PrintsLocation}

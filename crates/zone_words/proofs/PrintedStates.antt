@@ -9,6 +9,7 @@ use Rattle.zone_words.proofs.Printed.Addresses.{ipv4_printed_states, ipv6_printe
 use Rattle.zone_words.proofs.Printed.Location.{location_printed_states}
 use Rattle.zone_words.proofs.Printed.Numbers.{algorithm_printed_states, certificate_printed_states, type_printed_states, u16_printed_states, u32_printed_states, u8_printed_states}
 use Rattle.zone_words.proofs.Printed.PairLaws.{eui_printed_states, node_id_printed_states}
+use Rattle.zone_words.proofs.Printed.Prefixes.{prefixes_printed_state}
 use Rattle.zone_words.proofs.Printed.ReadAgain.{base64_printed_states, hex_printed_states, identity_printed_states, salt_printed_states, strings_printed_states}
 use Rattle.zone_words.proofs.Printed.ReadNames.{name_printed_states}
 use Rattle.zone_words.proofs.Printed.ReadValues.{bare_or_quoted_value, value_printed_states}
@@ -23,7 +24,6 @@ use Rattle.zone_words.specs.FirstItem.{FirstStates}
 use Rattle.zone_words.specs.Kinds.Gateway.{PrintsUpTo, StatesUpTo}
 use Rattle.zone_words.specs.Kinds.Hash.{PrintsHash, StatesHash}
 use Rattle.zone_words.specs.Kinds.Joined.{PrintsOneItem}
-use Rattle.zone_words.specs.Kinds.Prefixes.{PrintsPrefixes, StatesPrefixes}
 use Rattle.zone_words.specs.Kinds.Strings.{PrintsPerhaps, PrintsStringItem, StatesPerhaps, StatesString}
 use Rattle.zone_words.specs.Machine.PrintedFields.{OnlyLastPrintsAll, prints_all}
 use Rattle.zone_words.specs.PrintedData.{AreOfAType, PrintParts, PrintsApart, PrintsBare, PrintsData, PrintsField, apart}
@@ -97,9 +97,6 @@ string_item_states items octets printed =
 perhaps_states : (items : List RawItem) (octets : List ℕ) → PrintsPerhaps items octets → StatesPerhaps items octets
 perhaps_states [] octets printed = printed
 perhaps_states (item ∷ items) octets printed = string_item_states (item ∷ items) octets printed
-
-pub prefixes_printed_state : (items : List RawItem) (octets : List ℕ) → PrintsPrefixes items octets → StatesPrefixes items octets
-prefixes_printed_state items octets printed = printed
 
 -- ---- whether they touch or not
 

@@ -12,8 +12,9 @@ use Rattle.zone_rdata.specs.Item.{bare, quoted}
 use Rattle.zone_rdata.specs.Strings.{inside_text}
 use Rattle.zone_words.proofs.Printed.Numbers.{certificate_printed_states, type_printed_states, u16_printed_states, u32_printed_states, u8_printed_states}
 use Rattle.zone_words.proofs.Printed.PairLaws.{eui_printed_states}
+use Rattle.zone_words.proofs.Printed.Prefixes.{prefixes_printed_state}
 use Rattle.zone_words.proofs.PrintedRows.{passed}
-use Rattle.zone_words.proofs.PrintedStates.{items_apart, last_prints_all, one_item, prefixes_printed_state}
+use Rattle.zone_words.proofs.PrintedStates.{items_apart, last_prints_all, one_item}
 use Rattle.zone_words.specs.DataItem.{items_of}
 use Rattle.zone_words.specs.Kinds.Base64.{IsBase64, PrintsBase64}
 use Rattle.zone_words.specs.Kinds.Eui.{IsPair, StatesEui}
