@@ -237,9 +237,6 @@ pub record HavePrintedPrefixes (octets rest old new : List ℕ) : Type 0 where
   pub whole : octets ≡ front ++ rest
   pub appended : new ≡ old ++ after_blanks items
 
-pub no_prefix_yet : (octets old : List ℕ) → HavePrintedPrefixes octets octets old old
-no_prefix_yet octets old = record { items = []; front = []; printed = refl; whole = refl; appended = sym (append-nil old) }
-
 prefixes_more : (items : List RawItem) (front text part : List ℕ) → PrintsPrefixes items front → PrintsPrefix text part → PrintsPrefixes (items ++ bare text ∷ []) (front ++ part)
 prefixes_more [] front text part are is = (part, [], (is, (refl, ap (λ f. f ++ part) are ∙ sym (append-nil part))))
 prefixes_more (item ∷ items) front text part are is =

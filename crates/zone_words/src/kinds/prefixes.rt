@@ -5,7 +5,7 @@ ghost use Rattle.zone_rdata.specs.Item.{raw};
 ghost use Rattle.zone_rdata.specs.Number.{IsDecimal};
 ghost use Rattle.zone_words.specs.DataItem.{raw_item};
 ghost use Rattle.zone_words.specs.Fault.{AppendsStated, IfFault};
-ghost use Rattle.zone_words.specs.Kinds.Prefixes.{FailsPrefixes, IsAPrefix, IsAddress, IsAddressText, IsPrefixOctets, PrintsPrefix, PrintsPrefixes, SpellsPrefix, StatesPrefixes, address_text, family_of, mark, octets_of, prefix_text, sign};
+ghost use Rattle.zone_words.specs.Kinds.Prefixes.{FailsPrefixes, IsAPrefix, IsAddressText, IsPrefixOctets, PrintsPrefix, PrintsPrefixes, SpellsPrefix, StatesPrefixes, address_text, family_of, mark, octets_of, prefix_text, sign};
 ghost use Rattle.zone_words.specs.Machine.Prefixes.{BeginsWithPrefix, IsAddressIn, IsAfterMark, IsItemPrefix};
 ghost use Rattle.zone_words.specs.Printed.{IfNoData, NoFront, NoItems, PrintsAll, PrintsFront};
 
@@ -218,7 +218,6 @@ fn address_in(family: u16, part: &[u8]) -> Option<Address>
 
 /// Octets with zeros after them, so many in all. `None`: they are more.
 fn filled<const N: usize>(part: &[u8]) -> Option<[u8; N]>
-    ensures few { IfSome result (λ _. length part.now ≤ N) }
     ensures some { IfSome result (λ whole. whole
         ≡ part.now ++ replicate (N - length part.now) 0) }
     ensures none { IfNone result (N < length part.now) }
@@ -233,7 +232,6 @@ fn filled<const N: usize>(part: &[u8]) -> Option<[u8; N]>
 
 /// Appends a prefix as a text (RFC 3123 5).
 fn push_prefix(prefix: Prefix, out: &mut Vec<u8>) -> Result<(), AllocError>
-    requires { IsAddress prefix.address }
     ensures { OnOk result (out.new.items ≡ out.old.items ++ prefix_text prefix) }
 {
     out.extend_from_slice(mark(prefix.negated))?;
@@ -253,7 +251,6 @@ fn mark(negated: bool) -> &'static [u8]
 
 /// Appends an address.
 fn push_address(address: Address, out: &mut Vec<u8>) -> Result<(), AllocError>
-    requires { IsAddress address }
     ensures { OnOk result (out.new.items ≡ out.old.items ++ address_text address) }
 {
     match address {
