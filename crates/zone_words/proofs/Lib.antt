@@ -22,6 +22,7 @@ mod JoinedItems
 mod LengthsBefore
 mod PassedFaults
 pub mod Printed
+pub mod PrintedStanding
 mod Numbers
 mod TypeWords
 mod MnemonicOf
@@ -67,3 +68,5 @@ pub mod PrintedKinds
 pub mod PrintedFields
 pub mod PrintedEach
 pub mod PrintedInRow
+pub mod PrintedCount
+pub mod PrintedWords

@@ -1,5 +1,5 @@
 -- Fields that are printed for octets, one after another.
-use Rattle.zone_words.proofs.Common.{List, [], ap, append-nil, append_assoc, arith, flat_map, flat_map-append, length, map, nil_from_length, refl, subst, sym, ℕ, ◌++◌, ◌<◌, ◌∙◌, ◌∷◌, ◌≡◌}
+use Rattle.zone_words.proofs.Common.{List, [], ap, drop, get_or, ◌+◌, append-nil, append_assoc, arith, flat_map, flat_map-append, length, map, nil_from_length, refl, subst, sym, ℕ, ◌++◌, ◌<◌, ◌∙◌, ◌∷◌, ◌≡◌}
 use Rattle.std.specs.Prelude.{true, false}
 use Rattle.zone_name.specs.Common.{Labels}
 use Rattle.zone_rdata.proofs.Octets.Sent.{append_same}
@@ -10,7 +10,10 @@ use Rattle.zone_words.specs.Field.{items_after, own_items}
 use Rattle.zone_words.specs.Machine.PrintedFields.{HasNoOwn, OnlyLastPrintsAll, PrintsOwn, prints_all}
 use Rattle.zone_words.specs.Parameters.Printed.{PrintsTouching, written_touching}
 use Rattle.zone_words.specs.PrintedData.{NoItemsOf, PrintParts, PrintsFields}
-use Rattle.zone_words.specs.Table.{NamedField}
+use Rattle.std.proofs.Math.Seq.{length-drop}
+use Rattle.zone_words.proofs.ReadFields.{from_place}
+use Rattle.zone_words.specs.Table.{NamedField, field_of}
+use Rattle.zone_words.specs.declared.field.Field.{Field}
 
 written_after : (items more : List TouchingItem) → written_touching (items ++ more) ≡ written_touching items ++ written_touching more
 written_after [] more = refl
@@ -99,3 +102,19 @@ none_of_nothing rest some origin items (p ∷ parts) states whole value = states
 
 pub octets_left : (fields : List NamedField) (octets rest old new : List ℕ) → PrintedSoFar fields [] octets rest old new → 0 < length rest → OnlyLastPrintsAll fields → NoItemsOf fields octets
 octets_left fields octets rest old new have some only = have.none only (none_of_nothing rest some)
+
+-- ---- the fields of a slice, by their places
+
+pub place_printed : (fields : List Field) (i : ℕ) (f d : Field) (octets rest after old mid new : List ℕ) → i < length fields → f ≡ get_or fields i d → PrintedSoFar (map field_of fields) (map field_of (drop i fields)) octets rest old mid → PrintsOwn f.1 rest after mid new → PrintedSoFar (map field_of fields) (map field_of (drop (i + 1) fields)) octets after old new
+place_printed fields i f d octets rest after old mid new lt is have own =
+    one_more_field (map field_of fields) (field_of f) (map field_of (drop (i + 1) fields)) octets rest after old mid new
+    (subst (λ left. PrintedSoFar (map field_of fields) (map field_of left) octets rest old mid) (from_place fields i f d lt is) have) own
+
+pub place_unprinted : (fields : List Field) (i : ℕ) (f d : Field) (octets rest old mid : List ℕ) → i < length fields → f ≡ get_or fields i d → PrintedSoFar (map field_of fields) (map field_of (drop i fields)) octets rest old mid → HasNoOwn f.1 rest → OnlyLastPrintsAll (map field_of fields) → NoItemsOf (map field_of fields) octets
+place_unprinted fields i f d octets rest old mid lt is have none =
+    fields_unprinted (map field_of fields) (field_of f) (map field_of (drop (i + 1) fields)) octets rest old mid
+    (subst (λ left. PrintedSoFar (map field_of fields) (map field_of left) octets rest old mid) (from_place fields i f d lt is) have) none
+
+pub all_places : (fields : List Field) (i : ℕ) (octets rest old mid : List ℕ) → (i < length fields → ⊥) → PrintedSoFar (map field_of fields) (map field_of (drop i fields)) octets rest old mid → PrintedSoFar (map field_of fields) [] octets rest old mid
+all_places fields i octets rest old mid past have =
+    subst (λ left. PrintedSoFar (map field_of fields) (map field_of left) octets rest old mid) (nil_from_length (drop i fields) (omega (arith, past, length-drop i fields))) have

@@ -1,12 +1,16 @@
 -- What is printed for a bare item's octets, where texts are asked for that state them under some
 -- origin.
 use Rattle.zone_words.proofs.Common.{IfErr, List, Result, ℕ, ◌++◌, ◌≡◌}
-use Rattle.std.specs.Prelude.{Err, Ok}
+use Rattle.std.specs.Prelude.{Err, Ok, OnOk}
 use Rattle.zone_words.specs.Printed.{IfNoData, NoFront, PrintsFront}
 use Rattle.zone_words.specs.declared.unprinted.Unprinted.{Unprinted}
 use Rattle.zone_words.specs.declared.unprinted.Unprinted.TheVariants as unprinted
 
 -- ---- answers under a weaker claim
+
+pub ok_goes : {T E : Type 0} (r : Result T E) (P Q : Type 0) → (P → Q) → OnOk r P → OnOk r Q
+ok_goes (Ok x) P Q goes h = goes h
+ok_goes (Err e) P Q goes h = tt
 
 no_data_weaker : (A B : Type 0) (e : Unprinted) → (A → B) → IfNoData A e → IfNoData B e
 no_data_weaker A B unprinted.NoData goes h = goes h

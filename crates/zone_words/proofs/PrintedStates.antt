@@ -1,6 +1,5 @@
 -- What is printed for data states it, under every origin.
-use Rattle.zone_words.proofs.Common.{AllZip, IsDecimal, Labels, List, NamedField, RawItem, StateParts, StatesBare, StatesData, StatesField, StatesParameters, TouchingItem, [], ap, append-nil, arith, drop, false, false≢true, flat_map, items_after, length, length-append, length-map, map, min, own_count, own_items, placed, refl, subst, sym, take, takes_one, text_meaning, true, ℕ, ◌++◌, ◌∙◌, ◌∷◌, ◌≡◌, ◌≤◌}
-use Rattle.std.proofs.Common.{decimal}
+use Rattle.zone_words.proofs.Common.{AllZip, IsDecimal, Labels, List, NamedField, RawItem, StateParts, StatesBare, StatesData, StatesField, TouchingItem, [], ap, arith, drop, false, false≢true, items_after, length, length-append, length-map, map, min, own_count, own_items, placed, refl, subst, sym, take, text_meaning, true, ℕ, ◌++◌, ◌∙◌, ◌∷◌, ◌≡◌, ◌≤◌}
 use Rattle.std.proofs.Math.Seq.{drop-append_seam, take-append_seam}
 use Rattle.zone_rdata.proofs.Items.GenericLaws.{decimal-is}
 use Rattle.zone_rdata.proofs.Strings.StringLaws.{printed_spells}
@@ -10,6 +9,7 @@ use Rattle.zone_words.proofs.Printed.Addresses.{ipv4_printed_states, ipv6_printe
 use Rattle.zone_words.proofs.Printed.Location.{location_printed_states}
 use Rattle.zone_words.proofs.Printed.Numbers.{algorithm_printed_states, certificate_printed_states, type_printed_states, u16_printed_states, u32_printed_states, u8_printed_states}
 use Rattle.zone_words.proofs.Printed.PairLaws.{eui_printed_states, node_id_printed_states}
+use Rattle.zone_words.proofs.Printed.Prefixes.{prefixes_printed_state}
 use Rattle.zone_words.proofs.Printed.ReadAgain.{base64_printed_states, hex_printed_states, identity_printed_states, salt_printed_states, strings_printed_states}
 use Rattle.zone_words.proofs.Printed.ReadNames.{name_printed_states}
 use Rattle.zone_words.proofs.Printed.ReadValues.{bare_or_quoted_value, value_printed_states}
@@ -24,7 +24,6 @@ use Rattle.zone_words.specs.FirstItem.{FirstStates}
 use Rattle.zone_words.specs.Kinds.Gateway.{PrintsUpTo, StatesUpTo}
 use Rattle.zone_words.specs.Kinds.Hash.{PrintsHash, StatesHash}
 use Rattle.zone_words.specs.Kinds.Joined.{PrintsOneItem}
-use Rattle.zone_words.specs.Kinds.Prefixes.{PrintsPrefixes, StatesPrefixes}
 use Rattle.zone_words.specs.Kinds.Strings.{PrintsPerhaps, PrintsStringItem, StatesPerhaps, StatesString}
 use Rattle.zone_words.specs.Machine.PrintedFields.{OnlyLastPrintsAll, prints_all}
 use Rattle.zone_words.specs.PrintedData.{AreOfAType, PrintParts, PrintsApart, PrintsBare, PrintsData, PrintsField, apart}
@@ -99,18 +98,15 @@ perhaps_states : (items : List RawItem) (octets : List ℕ) → PrintsPerhaps it
 perhaps_states [] octets printed = printed
 perhaps_states (item ∷ items) octets printed = string_item_states (item ∷ items) octets printed
 
-prefixes_printed_state : (items : List RawItem) (octets : List ℕ) → PrintsPrefixes items octets → StatesPrefixes items octets
-prefixes_printed_state items octets printed = printed
-
 -- ---- whether they touch or not
 
-alone_again : (items : List RawItem) → items_of (apart items) ≡ items
-alone_again [] = refl
-alone_again (item ∷ items) = ap (λ t. item ∷ t) (alone_again items)
+pub items_apart : (items : List RawItem) → items_of (apart items) ≡ items
+items_apart [] = refl
+items_apart (item ∷ items) = ap (λ t. item ∷ t) (items_apart items)
 
 apart_state : (Prints States : List RawItem → List ℕ → Type 0) → ((items : List RawItem) (octets : List ℕ) → Prints items octets → States items octets) → (items : List TouchingItem) (octets : List ℕ) → PrintsApart Prints items octets → States (items_of items) octets
 apart_state Prints States goes items octets printed =
-    subst (λ items. States items octets) (sym (ap items_of printed.are_apart ∙ alone_again printed.alone)) (goes printed.alone octets printed.printed)
+    subst (λ items. States items octets) (sym (ap items_of printed.are_apart ∙ items_apart printed.alone)) (goes printed.alone octets printed.printed)
 
 pub field_printed_states : (origin : Labels) (kind : FieldKind) (items : List TouchingItem) (octets : List ℕ) → PrintsField kind items octets → StatesField origin kind items octets
 field_printed_states origin (Bare kind) items octets printed = apart_state _ (FirstStates (StatesBare origin kind)) (one_bare_states origin kind) items octets printed

@@ -14,3 +14,8 @@ returns-in_err-after-clause-none c =
 
 pub loop-rest-preserved : goal.loop-rest-preserved
 loop-rest-preserved c = one_more c.args.self c.args.octets.now c.loop-rest.rest.now c.in_ok-after.after.now c.args.out.now.items c.loop-rest.out.items c.push.new.self.items c.print.new.out.items (grind (arith, nat_tests, c.is_empty.ensures, c.loop-rest-test.true)) c.loop-rest.invariant c.in_ok-push.ensures.items c.in_ok-after.ensures.printed
+
+pub returns-then-after-rest-clause-none : goal.returns-then-after-rest-clause-none
+returns-then-after-rest-clause-none c =
+    no_progress c.args.self c.args.octets.now c.loop-rest.rest.now c.in_ok-after.after.now c.args.out.now.items c.loop-rest.out.items c.push.new.self.items c.print.new.out.items
+    (grind (arith, nat_tests, c.is_empty.ensures, c.loop-rest-test.true)) (grind (arith, nat_tests, c.if-after-rest.true)) c.loop-rest.invariant c.in_ok-after.ensures.printed
