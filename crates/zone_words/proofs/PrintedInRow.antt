@@ -1,5 +1,5 @@
 -- Fields that are printed for octets, one after another.
-use Rattle.zone_words.proofs.Common.{List, [], ap, drop, get_or, ◌+◌, append-nil, append_assoc, arith, flat_map, flat_map-append, length, map, nil_from_length, refl, subst, sym, ℕ, ◌++◌, ◌<◌, ◌∙◌, ◌∷◌, ◌≡◌}
+use Rattle.zone_words.proofs.Common.{List, [], ap, drop, from_place, get_or, length-drop, ◌+◌, append-nil, append_assoc, arith, flat_map, flat_map-append, length, map, nil_from_length, refl, subst, sym, ℕ, ◌++◌, ◌<◌, ◌∙◌, ◌∷◌, ◌≡◌}
 use Rattle.std.specs.Prelude.{true, false}
 use Rattle.zone_name.specs.Common.{Labels}
 use Rattle.zone_rdata.proofs.Octets.Sent.{append_same}
@@ -10,8 +10,6 @@ use Rattle.zone_words.specs.Field.{items_after, own_items}
 use Rattle.zone_words.specs.Machine.PrintedFields.{HasNoOwn, OnlyLastPrintsAll, PrintsOwn, prints_all}
 use Rattle.zone_words.specs.Parameters.Printed.{PrintsTouching, written_touching}
 use Rattle.zone_words.specs.PrintedData.{NoItemsOf, PrintParts, PrintsFields}
-use Rattle.std.proofs.Math.Seq.{length-drop}
-use Rattle.zone_words.proofs.ReadFields.{from_place}
 use Rattle.zone_words.specs.Table.{NamedField, field_of}
 use Rattle.zone_words.specs.declared.field.Field.{Field}
 
@@ -115,6 +113,6 @@ place_unprinted fields i f d octets rest old mid lt is have none =
     fields_unprinted (map field_of fields) (field_of f) (map field_of (drop (i + 1) fields)) octets rest old mid
     (subst (λ left. PrintedSoFar (map field_of fields) (map field_of left) octets rest old mid) (from_place fields i f d lt is) have) none
 
-pub all_places : (fields : List Field) (i : ℕ) (octets rest old mid : List ℕ) → (i < length fields → ⊥) → PrintedSoFar (map field_of fields) (map field_of (drop i fields)) octets rest old mid → PrintedSoFar (map field_of fields) [] octets rest old mid
+pub all_places : (fields : List Field) (i : ℕ) (octets rest old mid : List ℕ) → length fields ≤ i → PrintedSoFar (map field_of fields) (map field_of (drop i fields)) octets rest old mid → PrintedSoFar (map field_of fields) [] octets rest old mid
 all_places fields i octets rest old mid past have =
     subst (λ left. PrintedSoFar (map field_of fields) (map field_of left) octets rest old mid) (nil_from_length (drop i fields) (omega (arith, past, length-drop i fields))) have
