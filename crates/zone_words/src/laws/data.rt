@@ -5,6 +5,16 @@ ghost use Rattle.zone_rdata.specs.Item.{RawItem};
 ghost use Rattle.zone_words.specs.Data.{DataFails, StatesData};
 ghost use Rattle.zone_words.specs.DataItem.{TouchingItem};
 ghost use Rattle.zone_words.specs.Kinds.Location.{FailsLocation, StatesLocation};
+ghost use Rattle.zone_name.specs.Common.{AreOctets};
+ghost use Rattle.zone_name.specs.Name.{IsCasedName};
+ghost use Rattle.zone_words.specs.Kinds.Eui.{FailsEui, StatesEui};
+ghost use Rattle.zone_words.specs.Kinds.NodeId.{FailsNodeId, StatesNodeId};
+ghost use Rattle.zone_words.specs.Kinds.Hash.{FailsHash, StatesHash};
+ghost use Rattle.zone_words.specs.Kinds.Name.{FailsName, StatesName};
+ghost use Rattle.zone_words.specs.Kinds.Salt.{FailsSalt, StatesSalt};
+ghost use Rattle.zone_words.specs.Kinds.Tag.{FailsTag, StatesTag};
+ghost use Rattle.zone_words.specs.Kinds.Time.{FailsTime, StatesTime};
+ghost use Rattle.zone_words.specs.Kinds.Word.{FailsAlgorithm, FailsCertificateType, FailsType, StatesAlgorithm, StatesCertificateType, StatesType};
 ghost use Rattle.zone_words.specs.Table.{FurtherType, IsFurtherWord, NamedField};
 ghost use Rattle.zone_words.specs.declared.fault.WordsFault.{WordsFault};
 
@@ -41,4 +51,18 @@ pub fn data_has_one_fault()
 /// Items of a location state octets or have a fault, never neither.
 pub fn a_location_is_stated_or_faulty()
     ensures { (items : List RawItem) → EitherIs (StatesLocation items) (FailsLocation items) }
+{}
+
+/// A text states octets as a kind or has a fault, never neither.
+pub fn a_text_is_stated_or_faulty()
+    ensures algorithm { (text : List ℕ) → EitherIs (StatesAlgorithm text) (FailsAlgorithm text) }
+    ensures certificate { (text : List ℕ) → EitherIs (StatesCertificateType text) (FailsCertificateType text) }
+    ensures record_type { (text : List ℕ) → EitherIs (StatesType text) (FailsType text) }
+    ensures time { (text : List ℕ) → EitherIs (StatesTime text) (FailsTime text) }
+    ensures tag { (text : List ℕ) → EitherIs (StatesTag text) (FailsTag text) }
+    ensures salt { (text : List ℕ) → EitherIs (StatesSalt text) (FailsSalt text) }
+    ensures hash { (text : List ℕ) → EitherIs (StatesHash text) (FailsHash text) }
+    ensures eui { (text : List ℕ) → EitherIs (StatesEui 6 text) (FailsEui 6 text) }
+    ensures node_id { (text : List ℕ) → EitherIs (StatesNodeId text) (FailsNodeId text) }
+    ensures name { (origin : Labels) → IsCasedName origin → (text : List ℕ) → AreOctets text → EitherIs (StatesName origin text) (FailsName origin text) }
 {}
