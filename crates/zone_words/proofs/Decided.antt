@@ -3,3 +3,7 @@ pub mod Choices
 pub mod Numbers
 pub mod Texts
 pub mod Pairs
+pub mod Items
+pub mod Sorted
+pub mod Bitmaps
+pub mod Base64

@@ -12,6 +12,11 @@ ghost use Rattle.zone_words.specs.Kinds.NodeId.{FailsNodeId, StatesNodeId};
 ghost use Rattle.zone_words.specs.Kinds.Hash.{FailsHash, StatesHash};
 ghost use Rattle.zone_words.specs.Kinds.Name.{FailsName, StatesName};
 ghost use Rattle.zone_words.specs.Kinds.Salt.{FailsSalt, StatesSalt};
+ghost use Rattle.zone_words.specs.Kinds.Strings.{FailsStrings, StatesStrings};
+ghost use Rattle.std.specs.List.{AllByRecursion};
+ghost use Rattle.zone_rdata.specs.Strings.{item_text};
+ghost use Rattle.zone_words.specs.Kinds.Types.{FailsTypes, StatesTypes};
+ghost use Rattle.zone_words.specs.Kinds.HostIdentity.{FailsPublicKey, StatesPublicKey};
 ghost use Rattle.zone_words.specs.Kinds.Tag.{FailsTag, StatesTag};
 ghost use Rattle.zone_words.specs.Kinds.Time.{FailsTime, StatesTime};
 ghost use Rattle.zone_words.specs.Kinds.Word.{FailsAlgorithm, FailsCertificateType, FailsType, StatesAlgorithm, StatesCertificateType, StatesType};
@@ -65,4 +70,11 @@ pub fn a_text_is_stated_or_faulty()
     ensures eui { (text : List ℕ) → EitherIs (StatesEui 6 text) (FailsEui 6 text) }
     ensures node_id { (text : List ℕ) → EitherIs (StatesNodeId text) (FailsNodeId text) }
     ensures name { (origin : Labels) → IsCasedName origin → (text : List ℕ) → AreOctets text → EitherIs (StatesName origin text) (FailsName origin text) }
+{}
+
+/// Items state octets as a kind that takes several, or have a fault, never neither.
+pub fn items_are_stated_or_faulty()
+    ensures strings { (items : List RawItem) → AllByRecursion (λ item. AreOctets (item_text item)) items → EitherIs (StatesStrings items) (FailsStrings items) }
+    ensures key { (text : List ℕ) → AreOctets text → EitherIs (StatesPublicKey text) (FailsPublicKey text) }
+    ensures types { (items : List RawItem) → EitherIs (StatesTypes items) (FailsTypes items) }
 {}
