@@ -7,3 +7,7 @@ pub mod Items
 pub mod Sorted
 pub mod Bitmaps
 pub mod Base64
+pub mod Prefixes
+pub mod Values
+pub mod Parameters
+pub mod Fields

@@ -1,7 +1,6 @@
 -- What a text in base64 decodes to is octets, so that a text is base64 or isn't.
-use Rattle.std.proofs.lemmas.Bool.{cases_Bool}
-use Rattle.base64.proofs.Decoding.{IsLeftover, IsLeftover_next}
-use Rattle.base64.proofs.Tables.{IsDecodeTable_from, are_tables_inverse, encode-decode_table}
+use Rattle.base64.proofs.Canonical.{IsScanned-scan}
+use Rattle.base64.proofs.Tables.{are_tables_inverse, encode-decode_table}
 use Rattle.base64.specs.Decode.{IsDecodeTable, decode_error, decode_group, decode_outcome, decoded_bytes, group_error, groups_before_last, leftover_bytes, lone_error, no_leftover, or_else, push_leftover, scan, scan_bytes, scan_last, suffix_bytes, suffix_error, symbol_error}
 unfoldable use Rattle.base64.specs.Decode.{groups_bytes, groups_error, scan_steps}
 use Rattle.base64.specs.Engines.{standard}
@@ -10,11 +9,10 @@ use Rattle.base64.specs.Tables.{is_inverse}
 use Rattle.base64.specs.declared.decode.DecodeError.{DecodeError}
 use Rattle.base64.specs.declared.engine.DecodePaddingMode.{DecodePaddingMode}
 use Rattle.base64.specs.declared.engine.general_purpose.GeneralPurpose.{GeneralPurpose}
-use Rattle.base64.specs.declared.engine.general_purpose.decode_suffix.Leftover.{Leftover}
 use Rattle.zone_name.specs.Common.{EitherIs}
 use Rattle.zone_rdata.proofs.Choices.{Choice}
 use Rattle.zone_words.proofs.Base64Texts.{decoded_is, decodes_again, no_base64}
-use Rattle.zone_words.proofs.Common.{AllByRecursion-append, AllByRecursion-back, AllByRecursion-front, AreOctets, Bool, Err, List, None, Ok, Option, Result, Some, WordsFault, [], ap, arith, bytes_each, cases_lt, drop, each_below, false, inl, inr, length, lit<, refl, slice_index, subst, suc, sym, take, take-append-drop, to_be_bytes, true, w16, zero, ℕ, ◌%◌, ◌*◌, ◌++◌, ◌+◌, ◌/◌, ◌<◌, ◌∙◌, ◌∷◌, ◌≡◌, ◌≤◌, ◌⊎◌}
+use Rattle.zone_words.proofs.Common.{AllByRecursion-append, AllByRecursion-back, AllByRecursion-front, AreOctets, Bool, Err, List, None, Ok, Option, Result, Some, WordsFault, [], ap, arith, bytes_each, cases_lt, drop, each_below, false, get_or-drop, inl, inr, length, length-drop, lit<, refl, slice_index, subst, suc, sym, take, take-append-drop, to_be_bytes, true, w16, zero, ℕ, ◌%◌, ◌*◌, ◌++◌, ◌+◌, ◌/◌, ◌<◌, ◌∙◌, ◌∷◌, ◌≡◌, ◌≤◌, ◌⊎◌}
 use Rattle.zone_words.specs.Kinds.Base64.{IsBase64}
 use Rattle.zone_words.specs.Kinds.HostIdentity.{FailsPublicKey, StatesPublicKey, long_key, no_key}
 use Rattle.zone_words.specs.declared.fault.WordsFault.TheVariants.{NoBase64, TooLong}
@@ -32,7 +30,7 @@ value_small enc dec s i inv byte none = elim (encode-decode_table enc dec inv (s
 ]
 
 group_octets : (a b c d : ℕ) → a < 64 → b < 64 → c < 64 → d < 64 → AreOctets (decode_group a b c d)
-group_octets a b c d la lb lc ld = (omega arith, omega arith, omega arith, tt)
+group_octets a b c d la lb lc ld = (omega arith, (omega arith, (omega arith, tt)))
 
 groups_octets : (enc dec s : List ℕ) (q : ℕ) → is_inverse enc dec ≡ true → IsBytes s → groups_error dec s q ≡ None → AreOctets (groups_bytes dec s q)
 unfolding groups_error groups_bytes
@@ -54,49 +52,39 @@ zeros_small (suc (suc zero)) = omega arith
 zeros_small (suc (suc (suc zero))) = omega arith
 zeros_small (suc (suc (suc (suc k)))) = omega arith
 
-abbrev AreSmall : Leftover → Type 0
-AreSmall st = (k : ℕ) → slice_index st.morsels k < 64
-
-pushed_by : (dec bs : List ℕ) (pad at i b : ℕ) (st fin : Leftover) (pushed : Result Leftover DecodeError) → push_leftover dec pad at st i b ≡ pushed → IsDecodeTable dec → b < 256 → IsLeftover st i → scan_steps dec pad at pushed (i + 1) bs ≡ Ok fin → ((next : Leftover) → IsLeftover next (i + 1) → scan_steps dec pad at (Ok next) (i + 1) bs ≡ Ok fin → AreSmall fin) → AreSmall fin
-unfolding scan_steps
-pushed_by dec bs pad at i b st fin (Ok next) e table byte held h more = more next (IsLeftover_next dec pad at st i b next table held byte e) h
-pushed_by dec bs pad at i b st fin (Err wrong) e table byte held h more = absurd (cc h)
-
-scanned_small : (dec bs : List ℕ) (pad at i : ℕ) (st fin : Leftover) → IsDecodeTable dec → AreOctets bs → IsLeftover st i → scan_steps dec pad at (Ok st) i bs ≡ Ok fin → AreSmall fin
-unfolding scan_steps
-scanned_small dec [] pad at i st fin table bytes held h = subst AreSmall (cc h) held.3
-scanned_small dec (b ∷ bs) pad at i st fin table bytes held h = pushed_by dec bs pad at i b st fin (push_leftover dec pad at st i b) refl table bytes.0 held h (λ next more. scanned_small dec bs pad at (i + 1) next fin table bytes.1 more)
-
 take_octets : (n : ℕ) (octets : List ℕ) → AreOctets octets → AreOctets (take n octets)
 take_octets n octets each = AllByRecursion-front (λ c. c < 256) (take n octets) (drop n octets) (subst AreOctets (sym (take-append-drop n octets)) each)
 
-drop_octets : (n : ℕ) (octets : List ℕ) → AreOctets octets → AreOctets (drop n octets)
-drop_octets n octets each = AllByRecursion-back (λ c. c < 256) (take n octets) (drop n octets) (subst AreOctets (sym (take-append-drop n octets)) each)
-
-leftover_octets : (st : Leftover) → AreSmall st → AreOctets (leftover_bytes st)
-leftover_octets st small = take_octets (st.morsels_count * 6 / 8) _ (group_octets _ _ _ _ (small 0) (small 1) (small 2) (small 3))
-
-suffix_by : (dec s : List ℕ) (pad at : ℕ) (found : Result Leftover DecodeError) → scan_last dec pad at s ≡ found → IsDecodeTable dec → AreOctets s → AreOctets (scan_bytes found)
-suffix_by dec s pad at (Ok st) e table each = leftover_octets st (scanned_small dec (drop at s) pad at 0 no_leftover st table (drop_octets at s each) (omega arith, omega arith, omega arith, zeros_small) e)
-suffix_by dec s pad at (Err wrong) e table each = tt
+-- those of the last group, which is a scan of four symbols at most
+suffix_octets : (enc dec s : List ℕ) (pad at : ℕ) → is_inverse enc dec ≡ true → IsBytes s → length s ≤ at + 4 → AreOctets (scan_bytes (scan_last dec pad at s))
+suffix_octets enc dec s pad at inv bytes short =
+    let rest : List ℕ = drop at s in
+    let size : length rest ≤ 4 = omega (arith, length-drop at s) in
+    let each : IsBytes rest = λ k. rw (get_or-drop at s k 0) (bytes (at + k)) in
+    (elim (scan_last dec pad at s) as (λ r. scan_last dec pad at s ≡ r → AreOctets (scan_bytes r)) [
+      | Err wrong ↦ λ e. tt
+      | Ok st ↦ λ e.
+          let held = IsScanned-scan enc dec rest pad at rest no_leftover st 0 inv each size (omega arith) refl ((refl, refl, λ j lt. absurd (omega arith), λ j low lt. absurd (omega arith)), (omega arith, omega arith, omega arith, zeros_small)) e in
+          take_octets _ _ (group_octets _ _ _ _ (held.1.3 0) (held.1.3 1) (held.1.3 2) (held.1.3 3))
+    ]) refl
 
 -- ---- all of them
 
-decoded_octets : (enc dec s : List ℕ) (pad : ℕ) (allow : Bool) (mode : DecodePaddingMode) → is_inverse enc dec ≡ true → AreOctets s → IsBytes s → decode_error dec pad allow mode s ≡ None → AreOctets (decoded_bytes dec pad s)
-decoded_octets enc dec s pad allow mode inv each bytes none =
+decoded_octets : (enc dec s : List ℕ) (pad : ℕ) (allow : Bool) (mode : DecodePaddingMode) → is_inverse enc dec ≡ true → IsBytes s → decode_error dec pad allow mode s ≡ None → AreOctets (decoded_bytes dec pad s)
+decoded_octets enc dec s pad allow mode inv bytes none =
     let q : ℕ = groups_before_last (length s) in
     let after = or_else_none (lone_error dec pad s) (or_else (groups_error dec s q) (suffix_error dec pad allow mode (4 * q) s)) none in
     let groups = or_else_none (groups_error dec s q) (suffix_error dec pad allow mode (4 * q) s) after.1 in
-    AllByRecursion-append (λ c. c < 256) (groups_bytes dec s q) (suffix_bytes dec pad (4 * q) s) (groups_octets enc dec s q inv bytes groups.0) (suffix_by dec s pad (4 * q) (scan_last dec pad (4 * q) s) refl (IsDecodeTable_from enc dec inv) each)
+    AllByRecursion-append (λ c. c < 256) (groups_bytes dec s q) (suffix_bytes dec pad (4 * q) s) (groups_octets enc dec s q inv bytes groups.0) (suffix_octets enc dec s pad (4 * q) inv bytes (omega arith))
 
 outcome_ok : (x : Option DecodeError) (d b : List ℕ) → decode_outcome x d ≡ Ok b → (x ≡ None) × (d ≡ b)
 outcome_ok None d b h = (refl, cc h)
 outcome_ok (Some e) d b h = cc h
 
-decodes_octets : (e : GeneralPurpose) (s b : List ℕ) → AreOctets s → IsBytes s → decode_of e s ≡ Ok b → AreOctets b
-decodes_octets e s b each bytes ok =
+decodes_octets : (e : GeneralPurpose) (s b : List ℕ) → IsBytes s → decode_of e s ≡ Ok b → AreOctets b
+decodes_octets e s b bytes ok =
     let parts = outcome_ok (decode_error e.decode_table e.padding.value e.config.decode_allow_trailing_bits e.config.decode_padding_mode s) (decoded_bytes e.decode_table e.padding.value s) b ok in
-    subst AreOctets parts.1 (decoded_octets e.encode_table e.decode_table s e.padding.value e.config.decode_allow_trailing_bits e.config.decode_padding_mode (are_tables_inverse e.encode_table e.decode_table e.padding.value e.tables) each bytes parts.0)
+    subst AreOctets parts.1 (decoded_octets e.encode_table e.decode_table s e.padding.value e.config.decode_allow_trailing_bits e.config.decode_padding_mode (are_tables_inverse e.encode_table e.decode_table e.padding.value e.tables) bytes parts.0)
 
 -- ---- base64 or not
 
@@ -105,7 +93,7 @@ base64_by text found each e (inr empty) = inr (λ octets is. no_base64 text octe
 base64_by text (Err wrong) each e (inl some) = inr (λ octets is. absurd (let both = sym e ∙ (ap (decode_of standard) is.encoded ∙ decodes_again octets is.each) in cc both))
 base64_by text (Ok octets) each e (inl some) =
     let bytes : IsBytes text = each_below 256 text (lit< tt) each in
-    inl (octets, decoded_is text octets bytes (each_below 256 octets (lit< tt) (decodes_octets standard text octets each bytes e)) some e)
+    inl (octets, decoded_is text octets bytes (each_below 256 octets (lit< tt) (decodes_octets standard text octets bytes e)) some e)
 
 pub base64_or_not : (text : List ℕ) → AreOctets text → Choice (IsBase64 text)
 base64_or_not text each = base64_by text (decode_of standard text) each refl (cases_lt 0 (length text))

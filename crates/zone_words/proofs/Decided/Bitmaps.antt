@@ -120,7 +120,7 @@ some_own n rest front = elim (cases_lt 0 front.count) [
   | inr none ↦ absurd (let e : front.count ≡ 0 = omega arith in front.other (omega arith) (ap (λ (i : ℕ). get_or (n ∷ rest) i 0 / 256) e))
 ]
 
-map_same : (xs : List ℕ) → map (λ (n : ℕ). n) xs ≡ xs
+pub map_same : (xs : List ℕ) → map (λ (n : ℕ). n) xs ≡ xs
 map_same [] = refl
 map_same (x ∷ xs) = ap (λ l. x ∷ l) (map_same xs)
 
