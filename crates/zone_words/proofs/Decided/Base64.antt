@@ -1,10 +1,10 @@
 -- What a text in base64 decodes to is octets, so that a text is base64 or isn't.
 use Rattle.base64.proofs.Canonical.{IsScanned-scan}
 use Rattle.base64.proofs.Tables.{are_tables_inverse, encode-decode_table}
-use Rattle.base64.specs.Decode.{IsDecodeTable, decode_error, decode_group, decode_outcome, decoded_bytes, group_error, groups_before_last, leftover_bytes, lone_error, no_leftover, or_else, push_leftover, scan, scan_bytes, scan_last, suffix_bytes, suffix_error, symbol_error}
+use Rattle.base64.specs.Decode.{decode_error, decode_group, decode_outcome, decoded_bytes, group_error, groups_before_last, lone_error, no_leftover, or_else, scan_bytes, scan_last, suffix_bytes, suffix_error, symbol_error}
 unfoldable use Rattle.base64.specs.Decode.{groups_bytes, groups_error, scan_steps}
 use Rattle.base64.specs.Engines.{standard}
-use Rattle.base64.specs.GeneralPurpose.{IsBytes, decode_of, encode_of}
+use Rattle.base64.specs.GeneralPurpose.{IsBytes, decode_of}
 use Rattle.base64.specs.Tables.{is_inverse}
 use Rattle.base64.specs.declared.decode.DecodeError.{DecodeError}
 use Rattle.base64.specs.declared.engine.DecodePaddingMode.{DecodePaddingMode}
@@ -12,7 +12,7 @@ use Rattle.base64.specs.declared.engine.general_purpose.GeneralPurpose.{GeneralP
 use Rattle.zone_name.specs.Common.{EitherIs}
 use Rattle.zone_rdata.proofs.Choices.{Choice}
 use Rattle.zone_words.proofs.Base64Texts.{decoded_is, decodes_again, no_base64}
-use Rattle.zone_words.proofs.Common.{AllByRecursion-append, AllByRecursion-back, AllByRecursion-front, AreOctets, Bool, Err, List, None, Ok, Option, Result, Some, WordsFault, [], ap, arith, bytes_each, cases_lt, drop, each_below, false, get_or-drop, inl, inr, length, length-drop, lit<, refl, slice_index, subst, suc, sym, take, take-append-drop, to_be_bytes, true, w16, zero, ℕ, ◌%◌, ◌*◌, ◌++◌, ◌+◌, ◌/◌, ◌<◌, ◌∙◌, ◌∷◌, ◌≡◌, ◌≤◌, ◌⊎◌}
+use Rattle.zone_words.proofs.Common.{AllByRecursion-append, AllByRecursion-front, AreOctets, Bool, Err, List, None, Ok, Option, Result, Some, [], ap, arith, cases_lt, drop, each_below, get_or-drop, inl, inr, length, length-drop, lit<, refl, slice_index, subst, suc, sym, take, take-append-drop, to_be_bytes, true, w16, zero, ℕ, ◌*◌, ◌++◌, ◌+◌, ◌<◌, ◌∙◌, ◌∷◌, ◌≡◌, ◌≤◌, ◌⊎◌}
 use Rattle.zone_words.specs.Kinds.Base64.{IsBase64}
 use Rattle.zone_words.specs.Kinds.HostIdentity.{FailsPublicKey, StatesPublicKey, long_key, no_key}
 use Rattle.zone_words.specs.declared.fault.WordsFault.TheVariants.{NoBase64, TooLong}

@@ -5,17 +5,17 @@ use Rattle.std.proofs.lemmas.Nat.{or_of_8}
 use Rattle.std.specs.Int.Bits.{bit_or}
 use Rattle.std.specs.List.{Contains}
 use Rattle.zone_name.specs.Common.{EitherIs}
-use Rattle.zone_rdata.proofs.Choices.{Choice, Decided}
+use Rattle.zone_rdata.proofs.Choices.{Choice}
 use Rattle.zone_rdata.specs.Item.{bare, quoted}
 use Rattle.zone_words.proofs.Bits.{AreBitsOf, AreOf, HavePushed, all_pushed, more_bits, none_of, none_pushed, one_window, pushed_on}
-use Rattle.zone_words.proofs.Common.{All-from_recursion, All-permutation, AllByRecursion, AllByRecursion-back, AllZip, AppendsStated, FailsPerhapsTypes, FailsTypes, HasBit, IsPermutation, List, NamesAType, NamesType, RawItem, Some, StatesPerhapsTypes, StatesTypes, [], ap, arith, bit_at, cases_lt, drop, drop_all, get_or, get_or-set_other, get_or-set_same, get_or_past, inl, inr, length, length-drop, map, recursion_from_All, refl, replicate, set, subst, suc, sym, take, take-append-drop, take_all, zero, ℕ, ◌%◌, ◌*◌, ◌++◌, ◌+◌, ◌-◌, ◌/◌, ◌<◌, ◌^◌, ◌∙◌, ◌∷◌, ◌≡◌, ◌≢◌, ◌≤◌, ◌⊎◌}
+use Rattle.zone_words.proofs.Common.{All-from_recursion, All-permutation, AllByRecursion, AllByRecursion-back, AllZip, FailsPerhapsTypes, FailsTypes, HasBit, IsPermutation, List, NamesAType, NamesType, RawItem, StatesPerhapsTypes, StatesTypes, [], ap, arith, bit_at, cases_lt, drop, get_or, get_or-set_other, get_or-set_same, get_or_past, inl, inr, length, length-drop, map, recursion_from_All, refl, replicate, set, subst, suc, sym, take, take-append-drop, take_all, zero, ℕ, ◌%◌, ◌*◌, ◌++◌, ◌+◌, ◌-◌, ◌/◌, ◌<◌, ◌^◌, ◌∙◌, ◌∷◌, ◌≡◌, ◌≢◌, ◌≤◌, ◌⊎◌}
 use Rattle.zone_words.proofs.Decided.Choices.{by_own}
 use Rattle.zone_words.proofs.Decided.Numbers.{type_or_not}
 use Rattle.zone_words.proofs.Decided.Sorted.{in_order}
 use Rattle.zone_words.proofs.OfParameters.Ascending.{RiseFrom}
 use Rattle.zone_words.proofs.TypeItems.{types_pushed}
 use Rattle.zone_words.specs.Kinds.Bitmap.{IsBitmapOf}
-use Rattle.zone_words.specs.Machine.Windows.{AppendsWindow, HavePlace, nothing}
+use Rattle.zone_words.specs.Machine.Windows.{AppendsWindow, nothing}
 use Rattle.zone_words.specs.declared.fault.WordsFault.TheVariants.{NotAType, NothingLeft}
 
 -- ---- octets up to the last that isn't 0
@@ -44,7 +44,7 @@ trimmed octets = trimmed_from octets (length octets) (omega arith) (λ k past. g
 
 -- ---- the bits of types in their window
 
-abbrev pub AreBelow : List ℕ → Type 0
+abbrev AreBelow : List ℕ → Type 0
 AreBelow octets = (k : ℕ) → get_or octets k 0 < 256
 
 -- octets of a whole window with these bits

@@ -6,7 +6,7 @@ use Rattle.zone_rdata.proofs.Addresses.AddressChoice.{ipv4_or_not, ipv6_or_not}
 use Rattle.zone_rdata.proofs.Items.GenericLaws.{decimal_or_not}
 use Rattle.zone_rdata.specs.Item.{bare, quoted}
 use Rattle.zone_rdata.specs.Limits.{longest_data}
-use Rattle.zone_words.proofs.Common.{AFieldFails, AllByRecursion, AllByRecursion-back, AllByRecursion-front, AreOctets, DataFails, FailsBare, FailsField, IsHex, Labels, List, NamedField, RawItem, StateParts, StatesBare, StatesData, StatesField, TouchingItem, WordsFault, [], ap, arith, at_field, cases_lt, drop, drop-map, flat_map, inl, inr, item_text, items_after, items_left, last_name, length, map, own_count, own_items, refl, subst, sym, take, take-append-drop, take-map, text_meaning, too_long, ℕ, ◌++◌, ◌<◌, ◌∙◌, ◌∷◌, ◌≡◌, ◌≤◌, ◌⊎◌}
+use Rattle.zone_words.proofs.Common.{AFieldFails, AllByRecursion-back, AllByRecursion-front, AreOctets, DataFails, FailsBare, FailsField, IsHex, Labels, List, NamedField, RawItem, StateParts, StatesBare, StatesData, StatesField, TouchingItem, WordsFault, [], arith, at_field, cases_lt, drop, drop-map, flat_map, inl, inr, item_text, items_after, items_left, last_name, length, own_count, own_items, refl, subst, sym, take, take-append-drop, take-map, text_meaning, too_long, ℕ, ◌++◌, ◌<◌, ◌∙◌, ◌∷◌, ◌≡◌, ◌≤◌, ◌⊎◌}
 use Rattle.zone_words.proofs.Decided.Base64.{base64_or_not, key_decided}
 use Rattle.zone_words.proofs.Decided.Bitmaps.{perhaps_types_decided, types_decided}
 use Rattle.zone_words.proofs.Decided.Choices.{by_own}
@@ -32,7 +32,7 @@ use Rattle.zone_words.specs.declared.field.FieldKind.TheVariants.{Bare, Base64, 
 
 -- ---- a text and an item
 
-pub text_decided : (origin : Labels) → IsCasedName origin → (kind : BareKind) (text : List ℕ) → AreOctets text → EitherIs ((text_meaning origin kind).States text) ((text_meaning origin kind).Fails text)
+text_decided : (origin : Labels) → IsCasedName origin → (kind : BareKind) (text : List ℕ) → AreOctets text → EitherIs ((text_meaning origin kind).States text) ((text_meaning origin kind).Fails text)
 text_decided origin is U8 text low = in_octets_decided _ w8 (decimal_or_not text)
 text_decided origin is U16 text low = in_octets_decided _ w16 (decimal_or_not text)
 text_decided origin is U32 text low = in_octets_decided _ w32 (decimal_or_not text)
@@ -55,7 +55,7 @@ text_decided origin is Eui64 text low = by_own _ _ (eui_or_not 8 text (omega ari
 text_decided origin is HostIdentityTag text low = after_length_decided _ _ text (hex_or_not text)
 text_decided origin is PublicKey text low = key_decided text low
 
-pub bare_decided : (origin : Labels) → IsCasedName origin → (kind : BareKind) (item : RawItem) → AreOctets (item_text item) → EitherIs (StatesBare origin kind item) (FailsBare origin kind item)
+bare_decided : (origin : Labels) → IsCasedName origin → (kind : BareKind) (item : RawItem) → AreOctets (item_text item) → EitherIs (StatesBare origin kind item) (FailsBare origin kind item)
 bare_decided origin is kind (bare text) low = text_decided origin is kind text low
 bare_decided origin is kind (quoted text) low = inr (quoted_fault kind, refl)
 

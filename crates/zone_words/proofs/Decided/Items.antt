@@ -7,7 +7,7 @@ use Rattle.zone_rdata.proofs.Strings.Units.{string_or_fault}
 use Rattle.zone_rdata.specs.Fields.Strings.{FirstStringFault}
 use Rattle.zone_rdata.specs.Item.{bare, quoted}
 use Rattle.zone_rdata.specs.Strings.{SpellsString}
-use Rattle.zone_words.proofs.Common.{AllByRecursion, AllByRecursion-append, AllZip, AreOctets, BadEscape, ComesToBadEscape, Fault, IsUnit, List, RawItem, Unescaped, WordsFault, Written, [], ap, append-nil, arith, flat_map, inl, inr, item_text, length, no_octet, refl, subst, sym, with_length, written_octets, written_text, ℕ, ◌++◌, ◌<◌, ◌∙◌, ◌∷◌, ◌≡◌, ◌⊎◌}
+use Rattle.zone_words.proofs.Common.{AllByRecursion, AllByRecursion-append, AllZip, AreOctets, BadEscape, ComesToBadEscape, Fault, IsUnit, List, RawItem, Unescaped, WordsFault, Written, [], ap, append-nil, arith, flat_map, inl, inr, item_text, no_octet, refl, subst, with_length, written_octets, written_text, ℕ, ◌++◌, ◌<◌, ◌∙◌, ◌∷◌, ◌≡◌, ◌⊎◌}
 use Rattle.zone_words.proofs.Decided.Choices.{by_own}
 use Rattle.zone_words.specs.EachItem.{EachStates, OneFails}
 use Rattle.zone_words.specs.FirstItem.{FirstFails, FirstStates}

@@ -1,17 +1,15 @@
 -- Numbers, and words that stand for numbers, are stated or have a fault.
 use Rattle.std.proofs.lemmas.List.{length-map}
-use Rattle.std.proofs.lemmas.Bool.{cases_eq}
 use Rattle.std.proofs.lemmas.List.{drop_at, take_at}
 use Rattle.std.specs.Int.{byte_len}
 use Rattle.zone_name.specs.Common.{EitherIs}
-use Rattle.zone_name.specs.Spelling.{is_digit}
-use Rattle.zone_rdata.proofs.Choices.{Choice, Decided, choice_as, each_or_not, true_or_not}
+use Rattle.zone_rdata.proofs.Choices.{Choice, Decided, choice_as}
 use Rattle.zone_rdata.proofs.Items.GenericLaws.{decimal_or_not}
 use Rattle.zone_rdata.proofs.Words.OneWord.{same_or_not}
 use Rattle.zone_rdata.proofs.Words.Tables.{no_row, row_is}
 use Rattle.zone_rdata.specs.Table.{ascends}
 use Rattle.zone_rdata.specs.Words.{is_meta}
-use Rattle.zone_words.proofs.Common.{Bool, IsAlgorithm, IsDecimal, IsInOctets, IsKind, IsMnemonic, IsNumberOrMnemonic, IsNumbered, IsTypeWord, IsWordAmong, List, Named, None, NothingIs, NothingStated, NumberFails, Option, Some, Width, WordsFault, [], algorithms, ap, arith, by_mnemonic, by_number, bytes_eq, cases_lt, certificate_types, codes, drop, false, false≢true, find, folded_label, further_algorithms, inl, inr, length, refl, registered_types, subst, sym, take, take-append-drop, to_be_bytes, true, w16, ℕ, ◌++◌, ◌<◌, ◌^◌, ◌∙◌, ◌∷◌, ◌≡◌, ◌≤◌, ◌⊎◌}
+use Rattle.zone_words.proofs.Common.{Bool, IsAlgorithm, IsDecimal, IsInOctets, IsKind, IsMnemonic, IsNumberOrMnemonic, IsNumbered, IsTypeWord, IsWordAmong, List, Named, None, NumberFails, Option, Some, Width, [], algorithms, ap, arith, by_mnemonic, by_number, bytes_eq, cases_lt, certificate_types, codes, drop, false, false≢true, find, folded_label, further_algorithms, inl, inr, length, refl, registered_types, subst, sym, take, take-append-drop, to_be_bytes, true, w16, ℕ, ◌<◌, ◌^◌, ◌∙◌, ◌≡◌, ◌≤◌, ◌⊎◌}
 use Rattle.zone_words.proofs.TypeWords.{word_of_type_once}
 use Rattle.zone_words.specs.Kinds.Gateway.{FailsUpTo, StatesUpTo, no_digits, too_great}
 use Rattle.zone_words.specs.Kinds.Number.{no_number, too_large}

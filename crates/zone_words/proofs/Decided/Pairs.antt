@@ -8,7 +8,7 @@ use Rattle.zone_rdata.proofs.Addresses.Cut.{split}
 use Rattle.zone_rdata.proofs.Choices.{Choice, choice_as, choice_both}
 use Rattle.zone_rdata.specs.Address.{AreFourGroups, ArePartsOf}
 use Rattle.zone_rdata.specs.Machine.AddressReading.{IsGroupOf, IsLastPartOf}
-use Rattle.zone_words.proofs.Common.{AllZip, List, Result, [], ap, arith, cases_lt, drop, false, inl, inr, length, length-append, refl, replicate, suc, subst, sym, take, take-append-drop, zero, ℕ, ◌*◌, ◌++◌, ◌+◌, ◌-◌, ◌<◌, ◌∙◌, ◌∷◌, ◌≡◌, ◌≤◌, ◌⊎◌}
+use Rattle.zone_words.proofs.Common.{List, Result, [], ap, arith, cases_lt, drop, false, inl, inr, length, length-append, refl, replicate, suc, subst, sym, take, take-append-drop, zero, ℕ, ◌++◌, ◌-◌, ◌<◌, ◌∙◌, ◌∷◌, ◌≡◌, ◌≤◌, ◌⊎◌}
 use Rattle.zone_words.proofs.HexPairs.{ArePairs, ReadsPairs, are_pairs, eui_length, pair_length, pairs_more, take_last}
 use Rattle.zone_words.specs.Kinds.Eui.{IsPair, StatesEui}
 use Rattle.zone_words.specs.Machine.Pairs.{BeginsWithPair, IsCutPair}

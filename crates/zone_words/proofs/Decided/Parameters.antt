@@ -1,17 +1,15 @@
 -- Items state the octets of parameters or have a fault.
-use Rattle.std.proofs.lemmas.Bool.{cases_eq}
 use Rattle.std.proofs.lemmas.List.Sorted.{IsPermutation-cons, IsPermutation-middle, IsPermutation-refl, IsPermutation-trans}
 use Rattle.zone_name.specs.Common.{EitherIs}
 use Rattle.zone_rdata.proofs.Choices.{Choice, Decided, each_or_not}
 use Rattle.zone_rdata.specs.Item.{bare, quoted}
-use Rattle.zone_words.proofs.Common.{AllByRecursion, AllByRecursion-back, AreComplete, AreOctets, AreOnce, Ascend, AscendAbove, BeginWith, BeginWithTouchingQuote, Bool, FailsAfter, FailsParameters, FailsValue, IsCutFirst, IsMissing, IsNew, IsPermutation, IsShort, IsThere, Key, List, Parameter, ParameterText, Precede, RawItem, Sent, SpellsKey, StatesParameter, StatesParameters, StatesValue, TouchingItem, WordsFault, [], again, all_required, alone, ap, arith, bare_value, cases_lt, false, flat_map, inl, inr, item_text, keyless, length, long_value, map, missing_key, no_key, placed, quoted_value, refl, sent, sent_octets, subst, suc, sym, true, valueless, zero, ℕ, ◌++◌, ◌+◌, ◌<◌, ◌∙◌, ◌∷◌, ◌≡◌, ◌≢◌, ◌≤◌, ◌⊎◌}
+use Rattle.zone_words.proofs.Common.{AllByRecursion, AllByRecursion-back, AreComplete, AreOctets, AreOnce, Ascend, AscendAbove, BeginWith, BeginWithTouchingQuote, Bool, FailsAfter, FailsParameters, FailsValue, IsCutFirst, IsMissing, IsNew, IsPermutation, IsShort, IsThere, Key, List, Parameter, ParameterText, Precede, RawItem, Sent, SpellsKey, StatesParameter, StatesParameters, StatesValue, TouchingItem, WordsFault, [], again, all_required, alone, ap, arith, bare_value, cases_lt, false, flat_map, inl, inr, item_text, keyless, length, long_value, map, missing_key, no_key, placed, quoted_value, refl, sent, sent_octets, subst, suc, true, valueless, zero, ℕ, ◌++◌, ◌<◌, ◌∙◌, ◌∷◌, ◌≡◌, ◌≢◌, ◌≤◌, ◌⊎◌}
 use Rattle.zone_words.proofs.Decided.Choices.{at_most_or_not}
 use Rattle.zone_words.proofs.Decided.Items.{AreLow}
 use Rattle.zone_words.proofs.Decided.Values.{key_or_not, required_by, value_decided}
 use Rattle.zone_words.proofs.OfParameters.Reading.{each_more, fails_by, move, never_both, new_others, once_more, there_or_new}
 use Rattle.zone_words.proofs.OfParameters.Texts.{begin_once}
 use Rattle.zone_words.proofs.PlaceChoices.{CutOrMissing, cut_or_missing}
-use Rattle.zone_words.proofs.Cuts.{first_once, stands_in}
 use Rattle.zone_words.specs.DataItem.{items_of}
 use Rattle.zone_words.specs.Parameters.Keys.{number_of}
 use Rattle.zone_words.specs.declared.fault.WordsFault.TheVariants.{MandatoryKeyMissing, NotAKey, RepeatedKey, TooLong}
@@ -172,16 +170,19 @@ read_by items stated precede (inr missing) short = inr (MandatoryKeyMissing, mis
 read_by items stated precede (inl complete) (inr long) = inr (TooLong, long_value stated precede complete long)
 read_by items stated precede (inl complete) (inl short) =
     let order = ordered stated precede.once in
-    inl (flat_map sent_octets order.sorted, record {
-      stated = stated;
-      precede = precede;
-      complete = complete;
-      sorted = order.sorted;
-      same = order.same;
-      ascend = strict_ascend order.sorted order.strict;
-      short = move IsShort (map sent stated) order.sorted order.same short;
-      value = refl;
-    })
+    inl (
+      flat_map sent_octets order.sorted,
+      record {
+        stated = stated;
+        precede = precede;
+        complete = complete;
+        sorted = order.sorted;
+        same = order.same;
+        ascend = strict_ascend order.sorted order.strict;
+        short = move IsShort (map sent stated) order.sorted order.same short;
+        value = refl;
+      },
+    )
 
 all_read : (items : List TouchingItem) (stated : List Parameter) → Precede items [] stated → EitherIs (StatesParameters items) (FailsParameters items)
 all_read items stated precede = read_by items stated precede (each_or_not (IsThere stated) (λ n. there_by stated n (there_or_new n stated)) (all_required stated)) (each_or_not IsShort short_or_not (map sent stated))

@@ -12,7 +12,7 @@ use Rattle.zone_words.proofs.Decided.Choices.{by_own}
 use Rattle.zone_words.proofs.PlaceChoices.{cut_or_missing}
 use Rattle.zone_words.proofs.Prefixes.{AreOwnBits, IsOwnAddress, no_address, no_bits_of, no_family, no_length, prefix_appended}
 use Rattle.zone_words.specs.Kinds.Prefixes.{FailsPrefixes, IsPrefixOctets, SpellsPrefix, StatesPrefix, StatesPrefixes, family_of, mark, octets_of, sign}
-use Rattle.zone_words.specs.Machine.Prefixes.{BeginsWithMark, IsAfterMark}
+use Rattle.zone_words.specs.Machine.Prefixes.{IsAfterMark}
 use Rattle.zone_words.specs.declared.fault.WordsFault.TheVariants.{NoPrefix}
 use Rattle.zone_words.specs.declared.kinds.prefixes.Address.{Address}
 use Rattle.zone_words.specs.declared.kinds.prefixes.Address.TheVariants.{Ipv4, Ipv6}
@@ -88,16 +88,19 @@ bits_or_not text a = elim (decimal_or_not text) [
 prefix_by : (text marked front family address len : List ℕ) (negated : Bool) → IsCutLast 47 text marked len → IsAfterMark marked negated front → IsCutFirst 58 front family address → (own : (a : Address) × IsOwnAddress family address a) → Choice (AreOwnBits len own.0) → Choice (SpellsPrefix text)
 prefix_by text marked front family address len negated cut after first own (inr none) = inr (no_bits_of text marked front family address len negated own.0 cut after first own.1 none)
 prefix_by text marked front family address len negated cut after first own (inl bits) =
-    inl (record { negated = negated; address = own.0; bits = bits.0 }, record {
-      family = family;
-      address = address;
-      len = len;
-      parts = cut.parts ∙ ap (λ (l : List ℕ). l ++ 47 ∷ len) (after.parts ∙ ap (λ (l : List ℕ). mark negated ++ l) first.parts);
-      number = own.1.0;
-      is = own.1.1;
-      bits = bits.1.0;
-      few = bits.1.1;
-    })
+    inl (
+      record { negated = negated; address = own.0; bits = bits.0 },
+      record {
+        family = family;
+        address = address;
+        len = len;
+        parts = cut.parts ∙ ap (λ (l : List ℕ). l ++ 47 ∷ len) (after.parts ∙ ap (λ (l : List ℕ). mark negated ++ l) first.parts);
+        number = own.1.0;
+        is = own.1.1;
+        bits = bits.1.0;
+        few = bits.1.1;
+      },
+    )
 
 prefix_or_not : (text : List ℕ) → Choice (SpellsPrefix text)
 prefix_or_not text = elim (cut_last 47 text) [

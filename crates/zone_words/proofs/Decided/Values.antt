@@ -1,14 +1,12 @@
 -- The values of parameters are stated or have a fault, by their keys.
 use Rattle.std.proofs.Common.{decimal}
-use Rattle.std.proofs.lemmas.Bool.{cases_eq}
 use Rattle.zone_name.specs.Common.{EitherIs}
 use Rattle.zone_rdata.proofs.Addresses.AddressChoice.{ipv4_or_not, ipv6_or_not}
-use Rattle.zone_rdata.proofs.Choices.{Choice, Decided, choice_as, choice_both, each_or_not}
+use Rattle.zone_rdata.proofs.Choices.{Choice, Decided, each_or_not}
 use Rattle.zone_rdata.proofs.Fields.Number.{spelled_or_not}
 use Rattle.zone_rdata.proofs.Items.GenericLaws.{decimal_or_not}
 use Rattle.zone_rdata.proofs.Words.OneWord.{same_or_not}
-use Rattle.zone_rdata.specs.Fields.Number.{SpellsNumber}
-use Rattle.zone_words.proofs.Common.{AllByRecursion, AllZip, Alpn, AreOctets, AscendAbove, BadEscape, ComesToBadEscape, DohPath, Ech, FailsValue, HasEscapes, HasName, Ipv4Hint, Ipv6Hint, IsDecimal, IsKeyNumber, IsKeyText, IsPermutation, IsProtocol, Key, List, ListsAddresses, ListsKeys, ListsProtocols, Mandatory, NoDefaultAlpn, None, NothingIs, Numbered, Ohttp, Option, Port, RequiresKeys, Some, SpellsKey, StatesPath, StatesValue, Unescaped, WordsFault, [], ap, append_cancel_left, arith, bad_escape, cases_lt, codes, drop, false, flat_map, inl, inr, key_text, length, listed, map, refl, subst, suc, sym, take, take-append-drop, to_be_bytes, w16, with_length, ℕ, ◌++◌, ◌<◌, ◌∙◌, ◌∷◌, ◌≡◌, ◌≢◌, ◌≤◌, ◌⊎◌}
+use Rattle.zone_words.proofs.Common.{AllByRecursion, AllZip, Alpn, AreOctets, AscendAbove, BadEscape, ComesToBadEscape, DohPath, Ech, FailsValue, HasEscapes, HasName, Ipv4Hint, Ipv6Hint, IsDecimal, IsKeyNumber, IsKeyText, IsPermutation, IsProtocol, Key, List, ListsAddresses, ListsKeys, ListsProtocols, Mandatory, NoDefaultAlpn, None, NothingIs, Numbered, Ohttp, Option, Port, RequiresKeys, Some, SpellsKey, StatesPath, StatesValue, Unescaped, WordsFault, [], ap, arith, bad_escape, cases_lt, codes, drop, false, flat_map, inl, inr, key_text, length, listed, refl, subst, suc, sym, take, take-append-drop, to_be_bytes, w16, with_length, ℕ, ◌++◌, ◌<◌, ◌∙◌, ◌∷◌, ◌≡◌, ◌≢◌, ◌≤◌, ◌⊎◌}
 use Rattle.zone_words.proofs.Decided.Base64.{base64_or_not}
 use Rattle.zone_words.proofs.Decided.Bitmaps.{map_same}
 use Rattle.zone_words.proofs.Decided.Choices.{at_most_or_not, both_or_not}
@@ -90,6 +88,7 @@ named_or_not text = elim (same_or_not text (key_text Mandatory)) [
     ]
   ]
 ]
+
 name_valid : (key : Key) → HasName key → number_of key < 65535
 name_valid Mandatory has = omega arith
 name_valid Alpn has = omega arith
@@ -138,7 +137,7 @@ zip_by R a xs (inl found) (inl more) = inl (found.0 ∷ more.0, (found.1, more.1
 zip_by R a xs (inr none) more = inr (zip_none R a xs none)
 zip_by R a xs (inl found) (inr none) = inr (zip_stops R a xs none)
 
-pub zip_or_not : {A B : Type 0} (R : A → B → Type 0) → ((a : A) → Choice (R a)) → (xs : List A) → Choice (AllZip R xs)
+zip_or_not : {A B : Type 0} (R : A → B → Type 0) → ((a : A) → Choice (R a)) → (xs : List A) → Choice (AllZip R xs)
 zip_or_not R one [] = inl ([], tt)
 zip_or_not R one (x ∷ xs) = zip_by R x xs (one x) (zip_or_not R one xs)
 
@@ -155,9 +154,9 @@ ascend_or_not low (n ∷ numbers) = both_or_not (at_most_or_not (suc low) n) (as
 keys_by : (text stated sorted : List ℕ) → AllZip IsKeyText (listed text) stated → IsPermutation stated sorted → RiseFrom 0 sorted → Decided (AscendAbove 0 sorted) → Choice (ListsKeys text)
 keys_by text stated sorted each same rise (inl ascend) = inl (sorted, record { stated = stated; each = each; same = same; ascend = ascend })
 keys_by text stated sorted each same rise (inr none) = inr (λ numbers is.
-  let e = stated_once text is.stated stated is.each each in
-  let found = rise_once stated numbers sorted (subst (λ t. IsPermutation t numbers) e is.same) same (rise_weaker 0 numbers is.ascend) rise in
-  none (subst (AscendAbove 0) found is.ascend))
+    let e = stated_once text is.stated stated is.each each in
+    let found = rise_once stated numbers sorted (subst (λ t. IsPermutation t numbers) e is.same) same (rise_weaker 0 numbers is.ascend) rise in
+    none (subst (AscendAbove 0) found is.ascend))
 
 lists_keys_or_not : (text : List ℕ) → Choice (ListsKeys text)
 lists_keys_or_not text = elim (zip_or_not IsKeyText key_text_or_not (listed text)) [

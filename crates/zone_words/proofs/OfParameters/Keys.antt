@@ -44,7 +44,7 @@ unfolding named
 named_is (Numbered n) has = absurd has
 named_is key has = refl
 
-pub named_once : (text : List ℕ) (a b : Key) → HasName a → HasName b → text ≡ key_text a → text ≡ key_text b → a ≡ b
+named_once : (text : List ℕ) (a b : Key) → HasName a → HasName b → text ≡ key_text a → text ≡ key_text b → a ≡ b
 named_once text a b x y e f =
     let both = sym (named_is a x) ∙ ap named (sym e ∙ f) ∙ named_is b y in
     cc
