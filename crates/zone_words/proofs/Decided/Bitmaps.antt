@@ -8,11 +8,10 @@ use Rattle.zone_name.specs.Common.{EitherIs}
 use Rattle.zone_rdata.proofs.Choices.{Choice}
 use Rattle.zone_rdata.specs.Item.{bare, quoted}
 use Rattle.zone_words.proofs.Bits.{AreBitsOf, AreOf, HavePushed, all_pushed, more_bits, none_of, none_pushed, one_window, pushed_on}
-use Rattle.zone_words.proofs.Common.{All-from_recursion, All-permutation, AllByRecursion, AllByRecursion-back, AllZip, FailsPerhapsTypes, FailsTypes, HasBit, IsPermutation, List, NamesAType, NamesType, RawItem, StatesPerhapsTypes, StatesTypes, [], ap, arith, bit_at, cases_lt, drop, get_or, get_or-set_other, get_or-set_same, get_or_past, inl, inr, length, length-drop, map, recursion_from_All, refl, replicate, set, subst, suc, sym, take, take-append-drop, take_all, zero, ℕ, ◌%◌, ◌*◌, ◌++◌, ◌+◌, ◌-◌, ◌/◌, ◌<◌, ◌^◌, ◌∙◌, ◌∷◌, ◌≡◌, ◌≢◌, ◌≤◌, ◌⊎◌}
+use Rattle.zone_words.proofs.Common.{All-from_recursion, All-permutation, AllByRecursion, AllByRecursion-back, AllZip, FailsPerhapsTypes, FailsTypes, HasBit, IsPermutation, List, NamesAType, NamesType, RawItem, StatesPerhapsTypes, StatesTypes, [], ap, arith, bit_at, cases_lt, drop, get_or, get_or-set_other, get_or-set_same, get_or_past, inl, inr, length, length-drop, recursion_from_All, refl, replicate, set, subst, suc, sym, take, take-append-drop, take_all, zero, ℕ, ◌%◌, ◌*◌, ◌++◌, ◌+◌, ◌-◌, ◌/◌, ◌<◌, ◌^◌, ◌∙◌, ◌∷◌, ◌≡◌, ◌≢◌, ◌≤◌, ◌⊎◌}
 use Rattle.zone_words.proofs.Decided.Choices.{by_own}
 use Rattle.zone_words.proofs.Decided.Numbers.{type_or_not}
 use Rattle.zone_words.proofs.Decided.Sorted.{in_order}
-use Rattle.zone_words.proofs.OfParameters.Ascending.{RiseFrom}
 use Rattle.zone_words.proofs.TypeItems.{types_pushed}
 use Rattle.zone_words.specs.Kinds.Bitmap.{IsBitmapOf}
 use Rattle.zone_words.specs.Machine.Windows.{AppendsWindow, nothing}
@@ -120,10 +119,6 @@ some_own n rest front = elim (cases_lt 0 front.count) [
   | inr none ↦ absurd (let e : front.count ≡ 0 = omega arith in front.other (omega arith) (ap (λ (i : ℕ). get_or (n ∷ rest) i 0 / 256) e))
 ]
 
-pub map_same : (xs : List ℕ) → map (λ (n : ℕ). n) xs ≡ xs
-map_same [] = refl
-map_same (x ∷ xs) = ap (λ l. x ∷ l) (map_same xs)
-
 -- ---- windows, one after another
 
 abbrev AreTypes : List ℕ → Type 0
@@ -174,9 +169,8 @@ moved_types numbers sorted same each = recursion_from_All (λ n. n < 65536) sort
 
 bitmap_of : (items : List RawItem) (numbers : List ℕ) → AllZip NamesType items numbers → AreTypes numbers → (octets : List ℕ) × StatesPerhapsTypes items octets
 bitmap_of items numbers zip each =
-    let order = in_order (λ (n : ℕ). n) numbers in
-    let rise : RiseFrom 0 order.sorted = subst (RiseFrom 0) (map_same order.sorted) order.rise in
-    let bitmap = windows_from (length order.sorted) order.sorted order.sorted [] (omega arith) (moved_types numbers order.sorted order.same each) (none_pushed order.sorted [] rise) in
+    let order = in_order numbers in
+    let bitmap = windows_from (length order.sorted) order.sorted order.sorted [] (omega arith) (moved_types numbers order.sorted order.same each) (none_pushed order.sorted [] order.rise) in
     let all = types_pushed items numbers order.sorted [] bitmap.0 zip order.same (record { octets = bitmap.0; stated = bitmap.1; written = refl }) in
     (all.octets, all.stated)
 

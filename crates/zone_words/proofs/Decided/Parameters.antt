@@ -7,6 +7,7 @@ use Rattle.zone_words.proofs.Common.{AllByRecursion, AllByRecursion-back, AreCom
 use Rattle.zone_words.proofs.Decided.Choices.{at_most_or_not}
 use Rattle.zone_words.proofs.Decided.Items.{AreLow}
 use Rattle.zone_words.proofs.Decided.Values.{key_or_not, required_by, value_decided}
+use Rattle.zone_words.proofs.OfParameters.Once.{nothing_begins}
 use Rattle.zone_words.proofs.OfParameters.Reading.{each_more, fails_by, move, never_both, new_others, once_more, there_or_new}
 use Rattle.zone_words.proofs.OfParameters.Texts.{begin_once}
 use Rattle.zone_words.proofs.PlaceChoices.{CutOrMissing, cut_or_missing}
@@ -42,11 +43,6 @@ quoted_first : (inside : List ℕ) (touches : Bool) (items : List TouchingItem) 
 quoted_first inside touches items text rest (alone t l v e) = (let bad : false ≡ true = ap is_bare e in cc bad)
 quoted_first inside touches items text rest (bare_value t l v e) = (let bad : false ≡ true = ap is_bare e in cc bad)
 quoted_first inside touches items text rest (quoted_value t l e) = (let bad : false ≡ true = ap is_bare e in cc bad)
-
-no_items : (text : ParameterText) (rest : List TouchingItem) → BeginWith [] text rest → ⊥
-no_items text rest (alone t l v e) = absurd (cc e)
-no_items text rest (bare_value t l v e) = absurd (cc e)
-no_items text rest (quoted_value t l e) = absurd (cc e)
 
 -- the quoted item that touches what stands before it
 abbrev QuoteOrNot : List TouchingItem → Type 0
@@ -111,7 +107,7 @@ begun_by (bare word) touches rest word_low low = inl (word_begun word touches re
 begun_by (quoted inside) touches rest inside_low low = inr (quoted_first inside touches rest)
 
 begun_or_not : (items : List TouchingItem) → AreLowItems items → BegunOrNot items
-begun_or_not [] low = inr no_items
+begun_or_not [] low = inr nothing_begins
 begun_or_not (d ∷ items) low = begun_by d.item d.touches items low.0 low.1
 
 -- ---- parameters in ascending order, each key once

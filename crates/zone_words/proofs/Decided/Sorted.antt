@@ -1,32 +1,32 @@
--- Things are put in the order of their numbers.
+-- Numbers are put in order.
 use Rattle.std.proofs.lemmas.List.Sorted.{IsPermutation-cons, IsPermutation-middle, IsPermutation-refl, IsPermutation-trans}
-use Rattle.zone_words.proofs.Common.{IsPermutation, List, [], arith, cases_lt, inl, inr, map, ℕ, ◌<◌, ◌∷◌, ◌≤◌, ◌⊎◌}
+use Rattle.zone_words.proofs.Common.{IsPermutation, List, [], arith, cases_lt, inl, inr, ℕ, ◌<◌, ◌∷◌, ◌≤◌, ◌⊎◌}
 use Rattle.zone_words.proofs.OfParameters.Ascending.{RiseFrom}
 
--- in another order, in which their numbers rise
-pub record Orders {X : Type 0} (number : X → ℕ) (low : ℕ) (xs : List X) : Type 0 where
-  pub sorted : List X
-  pub same : IsPermutation xs sorted
-  pub rise : RiseFrom low (map number sorted)
+-- the same numbers in an order in which they rise
+pub record Orders (low : ℕ) (numbers : List ℕ) : Type 0 where
+  pub sorted : List ℕ
+  pub same : IsPermutation numbers sorted
+  pub rise : RiseFrom low sorted
 
--- one more among those that rise
-put_by : {X : Type 0} (number : X → ℕ) (low : ℕ) (x y : X) (xs : List X) → low ≤ number x → RiseFrom low (map number (y ∷ xs)) → (number y < number x) ⊎ (number x ≤ number y) → (number y ≤ number x → Orders number (number y) (x ∷ xs)) → Orders number low (x ∷ y ∷ xs)
-put_by number low x y xs least rise (inr first) more = record { sorted = x ∷ y ∷ xs; same = IsPermutation-refl (x ∷ y ∷ xs); rise = (least, (first, rise.1)) }
-put_by number low x y xs least rise (inl later) more =
+put_by : (low n m : ℕ) (numbers : List ℕ) → low ≤ n → RiseFrom low (m ∷ numbers) → (m < n) ⊎ (n ≤ m) → (m ≤ n → Orders m (n ∷ numbers)) → Orders low (n ∷ m ∷ numbers)
+put_by low n m numbers least rise (inr first) more = record { sorted = n ∷ m ∷ numbers; same = IsPermutation-refl (n ∷ m ∷ numbers); rise = (least, (first, rise.1)) }
+put_by low n m numbers least rise (inl later) more =
     let rest = more (omega arith) in
     record {
-      sorted = y ∷ rest.sorted;
-      same = IsPermutation-trans (x ∷ y ∷ xs) (y ∷ x ∷ xs) (y ∷ rest.sorted) (IsPermutation-middle (x ∷ []) y xs) (IsPermutation-cons y (x ∷ xs) rest.sorted rest.same);
+      sorted = m ∷ rest.sorted;
+      same = IsPermutation-trans (n ∷ m ∷ numbers) (m ∷ n ∷ numbers) (m ∷ rest.sorted) (IsPermutation-middle (n ∷ []) m numbers) (IsPermutation-cons m (n ∷ numbers) rest.sorted rest.same);
       rise = (rise.0, rest.rise);
     }
 
-put_in : {X : Type 0} (number : X → ℕ) (low : ℕ) (x : X) (xs : List X) → low ≤ number x → RiseFrom low (map number xs) → Orders number low (x ∷ xs)
-put_in number low x [] least rise = record { sorted = x ∷ []; same = IsPermutation-refl (x ∷ []); rise = (least, tt) }
-put_in number low x (y ∷ xs) least rise = put_by number low x y xs least rise (cases_lt (number y) (number x)) (λ later. put_in number (number y) x xs later rise.1)
+-- one more among those that rise
+put_in : (low n : ℕ) (numbers : List ℕ) → low ≤ n → RiseFrom low numbers → Orders low (n ∷ numbers)
+put_in low n [] least rise = record { sorted = n ∷ []; same = IsPermutation-refl (n ∷ []); rise = (least, tt) }
+put_in low n (m ∷ numbers) least rise = put_by low n m numbers least rise (cases_lt m n) (λ later. put_in m n numbers later rise.1)
 
-pub in_order : {X : Type 0} (number : X → ℕ) (xs : List X) → Orders number 0 xs
-in_order number [] = record { sorted = []; same = IsPermutation-refl []; rise = tt }
-in_order number (x ∷ xs) =
-    let rest = in_order number xs in
-    let put = put_in number 0 x rest.sorted (omega arith) rest.rise in
-    record { sorted = put.sorted; same = IsPermutation-trans (x ∷ xs) (x ∷ rest.sorted) put.sorted (IsPermutation-cons x xs rest.sorted rest.same) put.same; rise = put.rise }
+pub in_order : (numbers : List ℕ) → Orders 0 numbers
+in_order [] = record { sorted = []; same = IsPermutation-refl []; rise = tt }
+in_order (n ∷ numbers) =
+    let rest = in_order numbers in
+    let put = put_in 0 n rest.sorted (omega arith) rest.rise in
+    record { sorted = put.sorted; same = IsPermutation-trans (n ∷ numbers) (n ∷ rest.sorted) put.sorted (IsPermutation-cons n numbers rest.sorted rest.same) put.same; rise = put.rise }

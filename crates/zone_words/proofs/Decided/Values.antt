@@ -8,7 +8,6 @@ use Rattle.zone_rdata.proofs.Items.GenericLaws.{decimal_or_not}
 use Rattle.zone_rdata.proofs.Words.OneWord.{same_or_not}
 use Rattle.zone_words.proofs.Common.{AllByRecursion, AllZip, Alpn, AreOctets, AscendAbove, BadEscape, ComesToBadEscape, DohPath, Ech, FailsValue, HasEscapes, HasName, Ipv4Hint, Ipv6Hint, IsDecimal, IsKeyNumber, IsKeyText, IsPermutation, IsProtocol, Key, List, ListsAddresses, ListsKeys, ListsProtocols, Mandatory, NoDefaultAlpn, None, NothingIs, Numbered, Ohttp, Option, Port, RequiresKeys, Some, SpellsKey, StatesPath, StatesValue, Unescaped, WordsFault, [], ap, arith, bad_escape, cases_lt, codes, drop, false, flat_map, inl, inr, key_text, length, listed, refl, subst, suc, sym, take, take-append-drop, to_be_bytes, w16, with_length, ℕ, ◌++◌, ◌<◌, ◌∙◌, ◌∷◌, ◌≡◌, ◌≢◌, ◌≤◌, ◌⊎◌}
 use Rattle.zone_words.proofs.Decided.Base64.{base64_or_not}
-use Rattle.zone_words.proofs.Decided.Bitmaps.{map_same}
 use Rattle.zone_words.proofs.Decided.Choices.{at_most_or_not, both_or_not}
 use Rattle.zone_words.proofs.Decided.Items.{unescaped_decided}
 use Rattle.zone_words.proofs.Decided.Sorted.{in_order}
@@ -35,15 +34,15 @@ number_or_not digits = elim (decimal_or_not digits) [
   | inl found ↦ digits_by digits found.0 found.1 (same_or_not digits (decimal found.0)) (cases_lt found.0 65535)
 ]
 
-abbrev IsNumbered : List ℕ → ℕ → Type 0
-IsNumbered text n = (text ≡ codes "key" ++ decimal n) × (n < 65535)
+abbrev IsNumberedKey : List ℕ → ℕ → Type 0
+IsNumberedKey text n = (text ≡ codes "key" ++ decimal n) × (n < 65535)
 
-numbered_by : (text : List ℕ) → Decided (take 3 text ≡ codes "key") → Choice (IsKeyNumber (drop 3 text)) → Choice (IsNumbered text)
+numbered_by : (text : List ℕ) → Decided (take 3 text ≡ codes "key") → Choice (IsKeyNumber (drop 3 text)) → Choice (IsNumberedKey text)
 numbered_by text (inr other) digits = inr (λ n is. other (ap (take 3) is.0))
 numbered_by text (inl same) (inr none) = inr (λ n is. none n (ap (drop 3) is.0, is.1))
 numbered_by text (inl same) (inl found) = inl (found.0, (sym (take-append-drop 3 text) ∙ ap (λ t. t ++ drop 3 text) same ∙ ap (λ t. codes "key" ++ t) found.1.0, found.1.1))
 
--- the text is none of the names before
+-- the text is the name of no key
 abbrev NoName : List ℕ → Type 0
 NoName text = (key : Key) → HasName key → text ≡ key_text key → ⊥
 
@@ -59,35 +58,29 @@ no_name text a b c d f g h k l DohPath has e = k e
 no_name text a b c d f g h k l Ohttp has e = l e
 no_name text a b c d f g h k l (Numbered n) has e = has
 
-named_or_not : (text : List ℕ) → ((key : Key) × (HasName key × (text ≡ key_text key))) ⊎ NoName text
-named_or_not text = elim (same_or_not text (key_text Mandatory)) [
-  | inl e ↦ inl (Mandatory, (tt, e))
-  | inr a ↦ elim (same_or_not text (key_text Alpn)) [
-    | inl e ↦ inl (Alpn, (tt, e))
-    | inr b ↦ elim (same_or_not text (key_text NoDefaultAlpn)) [
-      | inl e ↦ inl (NoDefaultAlpn, (tt, e))
-      | inr c ↦ elim (same_or_not text (key_text Port)) [
-        | inl e ↦ inl (Port, (tt, e))
-        | inr d ↦ elim (same_or_not text (key_text Ipv4Hint)) [
-          | inl e ↦ inl (Ipv4Hint, (tt, e))
-          | inr f ↦ elim (same_or_not text (key_text Ech)) [
-            | inl e ↦ inl (Ech, (tt, e))
-            | inr g ↦ elim (same_or_not text (key_text Ipv6Hint)) [
-              | inl e ↦ inl (Ipv6Hint, (tt, e))
-              | inr h ↦ elim (same_or_not text (key_text DohPath)) [
-                | inl e ↦ inl (DohPath, (tt, e))
-                | inr k ↦ elim (same_or_not text (key_text Ohttp)) [
-                  | inl e ↦ inl (Ohttp, (tt, e))
-                  | inr l ↦ inr (no_name text a b c d f g h k l)
-                ]
-              ]
-            ]
-          ]
-        ]
-      ]
-    ]
-  ]
+-- the text is the name of a key, or else this holds
+abbrev NamedOr : List ℕ → Type 0 → Type 0
+NamedOr text P = ((key : Key) × (HasName key × (text ≡ key_text key))) ⊎ P
+
+-- it is the name of this key, or what holds if it isn't
+or_named : (text : List ℕ) (key : Key) (P : Type 0) → HasName key → (text ≢ key_text key → NamedOr text P) → NamedOr text P
+or_named text key P has more = elim (same_or_not text (key_text key)) [
+  | inl same ↦ inl (key, (has, same))
+  | inr other ↦ more other
 ]
+
+named_or_not : (text : List ℕ) → NamedOr text (NoName text)
+named_or_not text =
+    or_named text Mandatory (NoName text) tt (λ a.
+    or_named text Alpn (NoName text) tt (λ b.
+    or_named text NoDefaultAlpn (NoName text) tt (λ c.
+    or_named text Port (NoName text) tt (λ d.
+    or_named text Ipv4Hint (NoName text) tt (λ f.
+    or_named text Ech (NoName text) tt (λ g.
+    or_named text Ipv6Hint (NoName text) tt (λ h.
+    or_named text DohPath (NoName text) tt (λ k.
+    or_named text Ohttp (NoName text) tt (λ l.
+    inr (no_name text a b c d f g h k l))))))))))
 
 name_valid : (key : Key) → HasName key → number_of key < 65535
 name_valid Mandatory has = omega arith
@@ -101,7 +94,7 @@ name_valid DohPath has = omega arith
 name_valid Ohttp has = omega arith
 name_valid (Numbered n) has = absurd has
 
-neither_key : (text : List ℕ) → NoName text → NothingIs (IsNumbered text) → (key : Key) → SpellsKey text key → ⊥
+neither_key : (text : List ℕ) → NoName text → NothingIs (IsNumberedKey text) → (key : Key) → SpellsKey text key → ⊥
 neither_key text none other (Numbered n) is = other n (is.spelt, is.valid)
 neither_key text none other Mandatory is = none Mandatory tt is.spelt
 neither_key text none other Alpn is = none Alpn tt is.spelt
@@ -162,8 +155,8 @@ lists_keys_or_not : (text : List ℕ) → Choice (ListsKeys text)
 lists_keys_or_not text = elim (zip_or_not IsKeyText key_text_or_not (listed text)) [
   | inr none ↦ inr (λ numbers is. none is.stated is.each)
   | inl found ↦
-      let order = in_order (λ (n : ℕ). n) found.0 in
-      keys_by text found.0 order.sorted found.1 order.same (subst (RiseFrom 0) (map_same order.sorted) order.rise) (ascend_or_not 0 order.sorted)
+      let order = in_order found.0 in
+      keys_by text found.0 order.sorted found.1 order.same order.rise (ascend_or_not 0 order.sorted)
 ]
 
 addresses_or_not : (Is : List ℕ → List ℕ → Type 0) → ((text : List ℕ) → Choice (Is text)) → (text : List ℕ) → Choice (ListsAddresses Is text)
