@@ -45,6 +45,7 @@ mod HostIdentities
 pub mod FieldLaws
 mod EachItems
 pub mod DataLaws
+pub mod Decided
 pub mod FaultsOnce
 mod GivenItems
 pub mod Cuts
