@@ -71,3 +71,4 @@ pub mod PrintedEach
 pub mod PrintedInRow
 pub mod PrintedCount
 pub mod PrintedWords
+pub mod PrintedDataLaws

@@ -108,8 +108,8 @@ each_printed kind octets rest old new empty have = record {
 none_of_rest : (kind : BareKind) (octets rest old new : List ℕ) → HavePrintedEach kind octets rest old new → ((origin : Labels) (items : List RawItem) → AreStated kind origin items rest → ⊥) → HasNoOwn (Each kind) octets
 none_of_rest kind octets rest old new have none =
     all_unprinted (Each kind) octets refl (λ origin items states.
-        let now = have.others origin (items_of items) states in
-        none origin now.0 now.1)
+    let now = have.others origin (items_of items) states in
+    none origin now.0 now.1)
 
 none_at_front : (kind : BareKind) (origin : Labels) (items : List RawItem) (parts : List (List ℕ)) (rest : List ℕ) → 0 < length rest → NoFront (StatesSomewhere kind) rest → AllZip (StatesBare origin kind) items parts → rest ≡ joined parts → ⊥
 none_at_front kind origin [] [] rest some none each value = omega (arith, some, ap length value)

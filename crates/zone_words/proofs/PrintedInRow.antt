@@ -1,6 +1,6 @@
 -- Fields that are printed for octets, one after another.
 use Rattle.zone_words.proofs.Common.{List, [], ap, drop, from_place, get_or, length-drop, ◌+◌, append-nil, append_assoc, arith, flat_map, flat_map-append, length, map, nil_from_length, refl, subst, sym, ℕ, ◌++◌, ◌<◌, ◌∙◌, ◌∷◌, ◌≡◌}
-use Rattle.std.specs.Prelude.{true, false}
+use Rattle.std.specs.Prelude.{true, false, ◌≤◌}
 use Rattle.zone_name.specs.Common.{Labels}
 use Rattle.zone_rdata.proofs.Octets.Sent.{append_same}
 use Rattle.zone_rdata.specs.Text.{written_item}
