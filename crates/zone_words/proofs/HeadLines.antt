@@ -89,43 +89,26 @@ item_token : (item : RawItem) (s : Stands item) → IsItemToken (token_of item s
 item_token (raw.bare t) s = tt
 item_token (raw.quoted t) s = tt
 
-behind_item : (p q : Token) → IsItemToken p → IsItemToken q → (IsItemToken q → (units : List Written) × (q ≡ quoted units)) → MayFollow p q
-behind_item (bare units) q is q_is quotes = let found = quotes q_is in subst (MayFollow (bare units)) (sym found.1) tt
-behind_item (quoted units) q is q_is quotes = tt
-behind_item (blank c) q is q_is quotes = absurd is
-behind_item opening q is q_is quotes = absurd is
-behind_item closing q is q_is quotes = absurd is
-behind_item line_feed q is q_is quotes = absurd is
-behind_item (comment octets) q is q_is quotes = absurd is
+-- what may stand behind a bare item may stand behind either
+behind_item : (p q : Token) → IsItemToken p → MayFollow (bare []) q → MayFollow p q
+behind_item (bare units) q is may = may
+behind_item (quoted units) q is may = tt
+behind_item (blank c) q is may = absurd is
+behind_item opening q is may = absurd is
+behind_item closing q is may = absurd is
+behind_item line_feed q is may = absurd is
+behind_item (comment octets) q is may = absurd is
 
-quoted_token : (item : RawItem) (s : Stands item) → IsQuoted item → (units : List Written) × (token_of item s ≡ quoted units)
-quoted_token (raw.bare t) s is = absurd is
-quoted_token (raw.quoted t) s is = (s.units, refl)
-
-before_blank : (p : Token) → IsItemToken p → MayFollow p (blank 32)
-before_blank (bare units) is = tt
-before_blank (quoted units) is = tt
-before_blank (blank c) is = absurd is
-before_blank opening is = absurd is
-before_blank closing is = absurd is
-before_blank line_feed is = absurd is
-before_blank (comment octets) is = absurd is
-
-before_feed : (p : Token) → IsItemToken p → MayFollow p line_feed
-before_feed (bare units) is = tt
-before_feed (quoted units) is = tt
-before_feed (blank c) is = absurd is
-before_feed opening is = absurd is
-before_feed closing is = absurd is
-before_feed line_feed is = absurd is
-before_feed (comment octets) is = absurd is
+quoted_follows : (item : RawItem) (s : Stands item) → IsQuoted item → MayFollow (bare []) (token_of item s)
+quoted_follows (raw.bare t) s is = absurd is
+quoted_follows (raw.quoted t) s is = tt
 
 gap_follow : (p : Token) (touches : Bool) (item : RawItem) (st : Stands item) (tokens : List Token) → IsItemToken p → (touches ≡ true → IsQuoted item) → AllFollow (token_of item st ∷ tokens) → AllFollow (p ∷ gap touches (token_of item st ∷ tokens))
-gap_follow p true item st tokens is quotes more = (behind_item p (token_of item st) is (item_token item st) (λ _. quoted_token item st (quotes refl)), more)
-gap_follow p false item st tokens is quotes more = (before_blank p is, (tt, more))
+gap_follow p true item st tokens is quotes more = (behind_item p (token_of item st) is (quoted_follows item st (quotes refl)), more)
+gap_follow p false item st tokens is quotes more = (behind_item p (blank 32) is tt, (tt, more))
 
 tail_follow : (p : Token) (items : List TouchingItem) (s : AllByRecursion StandsBehind items) → IsItemToken p → AllFollow (p ∷ tail items s)
-tail_follow p [] s is = (before_feed p is, tt)
+tail_follow p [] s is = (behind_item p line_feed is tt, tt)
 tail_follow p (i ∷ items) s is =
     gap_follow p i.touches i.item s.0.stands (tail items s.1) is s.0.parted (tail_follow (token_of i.item s.0.stands) items s.1 (item_token i.item s.0.stands))
 
