@@ -1,6 +1,6 @@
 -- Why parameters aren't printed, as a function passes it on.
-use Rattle.zone_words.proofs.Common.{IfErr, IsErrAnd, List, Result, arith, subst, ℕ, ◌++◌, ◌≡◌}
-use Rattle.std.proofs.lemmas.Result.{err_from_is_err_and}
+use Rattle.zone_words.proofs.Common.{IfErr, IsErrAnd, List, Result, subst, ℕ, ◌++◌, ◌≡◌}
+use Rattle.zone_words.proofs.Printed.PassedNone.{none_passed}
 use Rattle.zone_words.specs.Machine.PrintedParameters.{StopsAs}
 use Rattle.zone_words.specs.Printed.{IfNoData}
 use Rattle.zone_words.specs.declared.unprinted.Unprinted.{Unprinted}
@@ -10,11 +10,8 @@ pub if_no_data : (e : Unprinted) (P Q : Type 0) → (P → Q) → IfNoData P e �
 if_no_data answers.NoData P Q goes h = goes h
 if_no_data answers.OutOfMemory P Q goes h = tt
 
-pub no_data_passed : {T : Type 0} (r : Result T Unprinted) (e : Unprinted) (P Q : Type 0) → IsErrAnd r (λ y. y ≡ e) → (P → Q) → IfNoData P e → IfErr r (IfNoData Q)
-no_data_passed r e P Q is goes h = grind (arith, err_from_is_err_and, if_no_data)
-
 pub stops_passed : {T : Type 0} (r : Result T Unprinted) (e : Unprinted) (P Q : Type 0) (old new : List ℕ) → IsErrAnd r (λ y. y ≡ e) → (P → Q) → (added : List ℕ) → new ≡ old ++ added → IfNoData P e → IfErr r (IfNoData (StopsAs Q old new))
-stops_passed r e P Q old new is goes added appended h = no_data_passed r e P (StopsAs Q old new) is (λ p. record { reason = goes p; added = added; appended = appended }) h
+stops_passed r e P Q old new is goes added appended h = none_passed r e P (StopsAs Q old new) is (λ p. record { reason = goes p; added = added; appended = appended }) h
 
 -- where nothing is printed
 pub reason_of : (e : Unprinted) (P : Type 0) → e ≡ answers.NoData → IfNoData P e → P

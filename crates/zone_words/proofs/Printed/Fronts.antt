@@ -1,22 +1,7 @@
 -- Parts at the front of octets that are printed.
-use Rattle.std.proofs.lemmas.Result.{err_from_is_err_and}
-use Rattle.std.specs.Prelude.{IsErrAnd}
 use Rattle.zone_rdata.proofs.Octets.Sent.{append_same}
-use Rattle.zone_words.proofs.Common.{IfErr, IsInOctets, List, Result, Width, ap, arith, byte_len, length, length-append, refl, sym, to_be_bytes, w8, ℕ, ◌%◌, ◌++◌, ◌+◌, ◌<◌, ◌^◌, ◌∙◌, ◌∷◌, ◌≡◌}
-use Rattle.zone_words.specs.Printed.{IfNoData, NoFront, PrintsFront}
-use Rattle.zone_words.specs.declared.unprinted.Unprinted.{Unprinted}
-use Rattle.zone_words.specs.declared.unprinted.Unprinted.TheVariants as unprinted
-
--- ---- answers that are passed on
-
--- why nothing is printed, by `?`
-pub none_passed : {T : Type 0} (r : Result T Unprinted) (e : Unprinted) (A B : Type 0) → IsErrAnd r (λ y. y ≡ e) → (A → B) → IfNoData A e → IfErr r (IfNoData B)
-none_passed r unprinted.NoData A B is goes h = grind (arith, err_from_is_err_and)
-none_passed r unprinted.OutOfMemory A B is goes h = grind (arith, err_from_is_err_and)
-
--- want of memory, by `?`
-pub memory_passed : {T : Type 0} (r : Result T Unprinted) (B : Type 0) → IsErrAnd r (λ y. y ≡ unprinted.OutOfMemory) → IfErr r (IfNoData B)
-memory_passed r B is = grind (arith, err_from_is_err_and)
+use Rattle.zone_words.proofs.Common.{IsInOctets, List, Width, ap, arith, byte_len, length, length-append, refl, sym, to_be_bytes, w8, ℕ, ◌%◌, ◌++◌, ◌+◌, ◌<◌, ◌^◌, ◌∙◌, ◌∷◌, ◌≡◌}
+use Rattle.zone_words.specs.Printed.{NoFront, PrintsFront}
 
 -- ---- parts of so many octets
 

@@ -1,5 +1,5 @@
 use Rattle.zone_words.proofs.Printed.Addresses.{ipv4_front, no_ipv4}
-use Rattle.zone_words.proofs.Printed.Fronts.{none_passed}
+use Rattle.zone_words.proofs.Printed.PassedNone.{none_passed}
 use Rattle.zone_words.proofs.kinds.address.print_ipv4.Goals as goal
 
 pub returns-clause-printed : goal.returns-clause-printed

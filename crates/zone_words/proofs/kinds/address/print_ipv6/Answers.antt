@@ -1,5 +1,5 @@
 use Rattle.zone_words.proofs.Printed.Addresses.{ipv6_front, no_ipv6}
-use Rattle.zone_words.proofs.Printed.Fronts.{none_passed}
+use Rattle.zone_words.proofs.Printed.PassedNone.{none_passed}
 use Rattle.zone_words.proofs.kinds.address.print_ipv6.Goals as goal
 
 pub returns-clause-printed : goal.returns-clause-printed

@@ -1,4 +1,4 @@
-use Rattle.zone_words.proofs.Printed.Fronts.{none_passed}
+use Rattle.zone_words.proofs.Printed.PassedNone.{none_passed}
 use Rattle.zone_words.proofs.Printed.Pairs.{eui_front, no_eui}
 use Rattle.zone_words.proofs.kinds.eui.print_eui.Goals as goal
 

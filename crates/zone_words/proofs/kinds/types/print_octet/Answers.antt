@@ -1,5 +1,5 @@
 use Rattle.zone_words.proofs.Common.{arith, subst, ℕ, ◌+◌, ◌≡◌}
-use Rattle.zone_words.proofs.Printed.Fronts.{none_passed}
+use Rattle.zone_words.proofs.Printed.PassedNone.{none_passed}
 use Rattle.zone_words.proofs.Printed.Types.{bit_of, no_bit_of, none_between, one_between, then_between}
 use Rattle.zone_words.specs.Machine.PrintedTypes.{IsInOctet, PrintsBetween}
 use Rattle.zone_words.proofs.kinds.types.print_octet.Goals as goal

@@ -1,5 +1,5 @@
 use Rattle.zone_words.proofs.Common.{arith, get_or, refl, ◌*◌, ◌+◌}
-use Rattle.zone_words.proofs.Printed.Fronts.{none_passed}
+use Rattle.zone_words.proofs.Printed.PassedNone.{none_passed}
 use Rattle.zone_words.proofs.Printed.Types.{no_kind_in_window, octet_in_window, octet_of_none, then_between, window_printed}
 use Rattle.zone_words.specs.Machine.Windows.{IsInWindow}
 use Rattle.zone_words.proofs.kinds.types.print_window.Goals as goal

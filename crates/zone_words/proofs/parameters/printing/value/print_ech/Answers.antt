@@ -1,12 +1,12 @@
 use Rattle.zone_words.proofs.Common.{[], ap, append_assoc, arith, nat_tests, refl, ◌++◌, ◌<◌, ◌∙◌, ◌∷◌, length, ◌≡◌}
 use Rattle.base64.specs.Engines.{standard}
 use Rattle.base64.specs.GeneralPurpose.{encode_of}
-use Rattle.zone_words.proofs.OfParameters.Stops.{no_data_passed}
+use Rattle.zone_words.proofs.Printed.PassedNone.{none_passed}
 use Rattle.zone_words.specs.Machine.PrintedParameters.{StopsAs}
 use Rattle.zone_words.proofs.parameters.printing.value.print_ech.Goals as goal
 
 pub returns-in_err-print_base64-clause-none : goal.returns-in_err-print_base64-clause-none
-returns-in_err-print_base64-clause-none c = no_data_passed c.from_residual-in_err-print_base64.result c.in_err-print_base64.field-0.0 ⊥ (StopsAs (c.args.value.now ≡ []) c.args.out.now.items c.print_base64.new.out.items) c.from_residual-in_err-print_base64.ensures.1 (λ never. absurd never) c.in_err-print_base64.ensures.err
+returns-in_err-print_base64-clause-none c = none_passed c.from_residual-in_err-print_base64.result c.in_err-print_base64.field-0.0 ⊥ (StopsAs (c.args.value.now ≡ []) c.args.out.now.items c.print_base64.new.out.items) c.from_residual-in_err-print_base64.ensures.1 (λ never. absurd never) c.in_err-print_base64.ensures.err
 
 pub returns-clause-printed : goal.returns-clause-printed
 returns-clause-printed c = record {
