@@ -33,15 +33,19 @@ pub fn printed_texts_state_their_octets()
     ensures u8 { (text octets : List ℕ) → PrintsU8 text octets → StatesU8 text octets }
     ensures u16 { (text octets : List ℕ) → PrintsU16 text octets → StatesU16 text octets }
     ensures u32 { (text octets : List ℕ) → PrintsU32 text octets → StatesU32 text octets }
-    ensures algorithm { (text octets : List ℕ) → PrintsAlgorithm text octets → StatesAlgorithm text octets }
-    ensures certificate { (text octets : List ℕ) → PrintsCertificateType text octets → StatesCertificateType text octets }
-    ensures record_type { (text octets : List ℕ) → PrintsType text octets → StatesType text octets }
+    ensures algorithm { (text octets : List ℕ) → PrintsAlgorithm text octets
+        → StatesAlgorithm text octets }
+    ensures certificate { (text octets : List ℕ) → PrintsCertificateType text octets
+        → StatesCertificateType text octets }
+    ensures record_type { (text octets : List ℕ) → PrintsType text octets
+        → StatesType text octets }
     ensures time { (text octets : List ℕ) → PrintsTime text octets → StatesTime text octets }
     ensures salt { (text octets : List ℕ) → PrintsSalt text octets → StatesSalt text octets }
     ensures tag { (text octets : List ℕ) → PrintsTag text octets → StatesTag text octets }
     ensures ipv4 { (text octets : List ℕ) → PrintsIpv4 text octets → StatesIpv4 text octets }
     ensures ipv6 { (text octets : List ℕ) → PrintsIpv6 text octets → StatesIpv6 text octets }
-    ensures node_id { (text octets : List ℕ) → PrintsNodeId text octets → StatesNodeId text octets }
+    ensures node_id { (text octets : List ℕ) → PrintsNodeId text octets
+        → StatesNodeId text octets }
     ensures name { (origin : Labels) (text octets : List ℕ) → PrintsName text octets
         → StatesName origin text octets }
     ensures eui { (count : ℕ) (text octets : List ℕ) → PrintsEui count text octets
@@ -58,8 +62,8 @@ pub fn printed_items_state_their_octets()
         → StatesStrings items octets }
     ensures types { (items : List RawItem) (octets : List ℕ) → PrintsTypes items octets
         → StatesTypes items octets }
-    ensures perhaps_types { (items : List RawItem) (octets : List ℕ) → PrintsPerhapsTypes items octets
-        → StatesPerhapsTypes items octets }
+    ensures perhaps_types { (items : List RawItem) (octets : List ℕ)
+        → PrintsPerhapsTypes items octets → StatesPerhapsTypes items octets }
     ensures prefixes { (items : List RawItem) (octets : List ℕ) → PrintsPrefixes items octets
         → StatesPrefixes items octets }
     ensures location { (items : List RawItem) (octets : List ℕ) → PrintsLocation items octets
