@@ -8,11 +8,12 @@ ghost use Rattle.zone_words.specs.declared.field.FieldKind.TheVariants as kinds;
 
 use crate::field::{BareKind, FieldKind};
 use crate::kinds::{
-    print_address_type, print_algorithm, print_base64_item, print_certificate_type,
-    print_discovery, print_eui, print_hash, print_hex, print_host_identity_tag, print_ipv4,
-    print_ipv6, print_location, print_name, print_no_address, print_node_id, print_perhaps_types,
-    print_prefixes, print_public_key, print_salt, print_string, print_strings, print_tag,
-    print_time, print_type, print_types, print_u8, print_u16, print_u32, print_value_item,
+    Version, print_address, print_address_type, print_algorithm, print_base64_item,
+    print_certificate_type, print_discovery, print_eui, print_hash, print_hex,
+    print_host_identity_tag, print_location, print_name, print_no_address, print_node_id,
+    print_perhaps_types, print_prefixes, print_public_key, print_salt, print_string, print_strings,
+    print_tag, print_time, print_type, print_types, print_u8, print_u16, print_u32,
+    print_value_item,
 };
 use crate::parameters::print_parameters;
 use crate::unprinted::Unprinted;
@@ -46,8 +47,8 @@ impl BareKind {
             BareKind::Salt => print_salt(octets, out),
             BareKind::Hash => print_hash(octets, out),
             BareKind::Tag => print_tag(octets, out),
-            BareKind::Ipv4 => print_ipv4(octets, out),
-            BareKind::Ipv6 => print_ipv6(octets, out),
+            BareKind::Ipv4 => print_address(Version::V4, octets, out),
+            BareKind::Ipv6 => print_address(Version::V6, octets, out),
             BareKind::AddressType(optional) => print_address_type(octets, optional, out),
             BareKind::Discovery => print_discovery(octets, out),
             BareKind::NoAddress => print_no_address(octets, out),

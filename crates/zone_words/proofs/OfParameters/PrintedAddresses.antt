@@ -3,8 +3,8 @@ use Rattle.zone_words.proofs.Common.{AllByRecursion, AllByRecursion-append, List
 use Rattle.zone_words.proofs.OfParameters.Marked.{AreMarked, more_marked}
 use Rattle.zone_words.specs.Machine.PrintedParameters.{AppendsUnquoted, AreAddresses, marked, size_of}
 use Rattle.zone_words.specs.Parameters.Printed.{PrintsAddresses}
-use Rattle.zone_words.specs.declared.parameters.addresses.Version.{Version}
-use Rattle.zone_words.specs.declared.parameters.addresses.Version.TheVariants.{V4, V6}
+use Rattle.zone_words.specs.declared.kinds.address.Version.{Version}
+use Rattle.zone_words.specs.declared.kinds.address.Version.TheVariants.{V4, V6}
 
 abbrev joined : List (List ℕ) → List ℕ
 joined addresses = flat_map (λ address. address) addresses

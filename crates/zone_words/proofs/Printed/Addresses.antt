@@ -1,31 +1,33 @@
 -- Addresses that are printed.
 use Rattle.zone_rdata.proofs.Addresses.AddressOctets.{ipv4_count, ipv6_count}
 use Rattle.zone_rdata.proofs.Addresses.AddressLaws.{ipv4_printed, ipv6_printed}
-use Rattle.zone_rdata.specs.Address.{ipv4_text, ipv6_text}
-use Rattle.zone_words.proofs.Common.{AllByRecursion-front, AreOctets, List, bytes_each, get_or, length, refl, subst, sym, ℕ, ◌++◌, ◌<◌, ◌≡◌}
-use Rattle.zone_words.proofs.Printed.Fronts.{front_printed, front_short}
+use Rattle.zone_words.proofs.Common.{AllByRecursion-front, AreOctets, IsAddressOf, List, bytes_each, get_or, length, refl, subst, sym, ℕ, ◌++◌, ◌<◌, ◌≡◌}
+use Rattle.zone_words.proofs.Printed.Fronts.{HaveCount, front_printed, front_short}
 use Rattle.zone_words.specs.Kinds.Address.{PrintsIpv4, PrintsIpv6, StatesIpv4, StatesIpv6}
+use Rattle.zone_words.specs.Machine.PrintedParameters.{PrintsAddress, address_text, size_of}
 use Rattle.zone_words.specs.Printed.{NoFront, PrintsFront}
+use Rattle.zone_words.specs.declared.kinds.address.Version.{Version}
+use Rattle.zone_words.specs.declared.kinds.address.Version.TheVariants.{V4, V6}
 
 -- a part of octets is octets
 pub part_octets : (octets part rest : List ℕ) → ((i : ℕ) → get_or octets i 0 < 256) → octets ≡ part ++ rest → AreOctets part
 part_octets octets part rest each whole = AllByRecursion-front (λ c. c < 256) part rest (subst AreOctets whole (bytes_each octets each))
 
-pub ipv4_front : (octets rest old new part : List ℕ) → ((i : ℕ) → get_or octets i 0 < 256) → octets ≡ part ++ rest → length part ≡ 4 → new ≡ old ++ ipv4_text part → PrintsFront PrintsIpv4 StatesIpv4 octets rest old new
-ipv4_front octets rest old new part each whole four appended =
-    front_printed PrintsIpv4 StatesIpv4 4 octets rest old new part (ipv4_text part) ipv4_count whole four
-    (record { four = four; each = part_octets octets part rest each whole; canonical = refl }) appended
+address_count : (version : Version) → HaveCount (IsAddressOf version) (size_of version)
+address_count V4 = ipv4_count
+address_count V6 = ipv6_count
 
-pub ipv6_front : (octets rest old new part : List ℕ) → ((i : ℕ) → get_or octets i 0 < 256) → octets ≡ part ++ rest → length part ≡ 16 → new ≡ old ++ ipv6_text part → PrintsFront PrintsIpv6 StatesIpv6 octets rest old new
-ipv6_front octets rest old new part each whole sixteen appended =
-    front_printed PrintsIpv6 StatesIpv6 16 octets rest old new part (ipv6_text part) ipv6_count whole sixteen
-    (record { sixteen = sixteen; each = part_octets octets part rest each whole; canonical = refl }) appended
+address_printed : (version : Version) (part : List ℕ) → length part ≡ size_of version → AreOctets part → PrintsAddress version (address_text version part) part
+address_printed V4 part four each = record { four = four; each = each; canonical = refl }
+address_printed V6 part sixteen each = record { sixteen = sixteen; each = each; canonical = refl }
 
-pub no_ipv4 : (octets : List ℕ) → length octets < 4 → NoFront StatesIpv4 octets
-no_ipv4 octets short = front_short StatesIpv4 4 octets ipv4_count short
+pub address_front : (version : Version) (octets rest old new part : List ℕ) → ((i : ℕ) → get_or octets i 0 < 256) → octets ≡ part ++ rest → length part ≡ size_of version → new ≡ old ++ address_text version part → PrintsFront (PrintsAddress version) (IsAddressOf version) octets rest old new
+address_front version octets rest old new part each whole long appended =
+    front_printed (PrintsAddress version) (IsAddressOf version) (size_of version) octets rest old new part (address_text version part) (address_count version) whole long
+    (address_printed version part long (part_octets octets part rest each whole)) appended
 
-pub no_ipv6 : (octets : List ℕ) → length octets < 16 → NoFront StatesIpv6 octets
-no_ipv6 octets short = front_short StatesIpv6 16 octets ipv6_count short
+pub no_address : (version : Version) (octets : List ℕ) → length octets < size_of version → NoFront (IsAddressOf version) octets
+no_address version octets short = front_short (IsAddressOf version) (size_of version) octets (address_count version) short
 
 -- ---- they state the octets
 

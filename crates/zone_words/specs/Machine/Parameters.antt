@@ -11,8 +11,8 @@ use Rattle.zone_words.specs.Parameters.Value.{IsProtocol}
 use Rattle.zone_words.specs.Unescaped.{Unescaped}
 use Rattle.zone_words.specs.declared.fault.WordsFault.{WordsFault}
 use Rattle.zone_words.specs.declared.fault.WordsFault.TheVariants as faults
-use Rattle.zone_words.specs.declared.parameters.addresses.Version.{Version}
-use Rattle.zone_words.specs.declared.parameters.addresses.Version.TheVariants.{V4, V6}
+use Rattle.zone_words.specs.declared.kinds.address.Version.{Version}
+use Rattle.zone_words.specs.declared.kinds.address.Version.TheVariants.{V4, V6}
 use Rattle.zone_words.specs.declared.parameters.protocols.NextListed.{NextListed}
 use Rattle.zone_words.specs.declared.parameters.protocols.NextListed.TheVariants.{End, Comma, Octet, BadEscape}
 use Rattle.zone_words.specs.declared.parameters.key.Key.{Key}

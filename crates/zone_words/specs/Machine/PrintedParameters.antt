@@ -6,12 +6,13 @@ use Rattle.zone_name.specs.Common.{AreOctets}
 use Rattle.zone_name.specs.Name.{with_length}
 use Rattle.zone_rdata.specs.Address.{ipv4_text, ipv6_text}
 use Rattle.zone_words.specs.DataItem.{TouchingItem}
+use Rattle.zone_words.specs.Kinds.Address.{PrintsIpv4, PrintsIpv6}
 use Rattle.zone_words.specs.Parameters.{IsShort, Sent, sent_octets}
 use Rattle.zone_words.specs.Parameters.Keys.{key_text}
 use Rattle.zone_words.specs.Parameters.Printed.{IsAmong, IsStated, PrintsParameter, ValueText, left_out, unquoted, in_quotes, usual_key, written_touching}
 use Rattle.zone_words.specs.Parameters.Value.{AscendAbove, IsProtocol}
-use Rattle.zone_words.specs.declared.parameters.addresses.Version.{Version}
-use Rattle.zone_words.specs.declared.parameters.addresses.Version.TheVariants.{V4, V6}
+use Rattle.zone_words.specs.declared.kinds.address.Version.{Version}
+use Rattle.zone_words.specs.declared.kinds.address.Version.TheVariants.{V4, V6}
 use Rattle.zone_words.specs.declared.parameters.key.Key.{Key}
 use Rattle.zone_words.specs.declared.parameters.printing.sent.Parameter.{Parameter}
 
@@ -83,6 +84,10 @@ size_of V6 = 16
 abbrev pub address_text : Version → List ℕ → List ℕ
 address_text V4 = ipv4_text
 address_text V6 = ipv6_text
+
+abbrev pub PrintsAddress : Version → List ℕ → List ℕ → Type 0
+PrintsAddress V4 = PrintsIpv4
+PrintsAddress V6 = PrintsIpv6
 
 -- octets of addresses, one or more
 pub record AreAddresses (size : ℕ) (addresses : List (List ℕ)) (octets : List ℕ) : Type 0 where

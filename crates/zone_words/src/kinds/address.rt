@@ -1,13 +1,25 @@
 //! Addresses of four octets (RFC 1035 3.4.1) and of sixteen (RFC 4291 2.2).
-ghost use Rattle.std.specs.Prelude.{IfErr, IfOk, OnOk};
+ghost use Rattle.std.specs.Prelude.{◌≡◌, ◌++◌, length, IfErr, IfOk, OnOk};
 ghost use Rattle.zone_words.specs.Fault.{AppendsStated, IfFault};
-ghost use Rattle.zone_words.specs.Kinds.Address.{FailsIpv4, FailsIpv6, PrintsIpv4, PrintsIpv6, StatesIpv4, StatesIpv6};
+ghost use Rattle.zone_words.specs.Kinds.Address.{FailsIpv4, FailsIpv6, StatesIpv4, StatesIpv6};
+ghost use Rattle.zone_words.specs.Machine.Parameters.{IsAddressOf};
+ghost use Rattle.zone_words.specs.Machine.PrintedParameters.{PrintsAddress, address_text, size_of};
 ghost use Rattle.zone_words.specs.Printed.{IfNoData, NoFront, PrintsFront};
 
 use crate::fault::{WordsFailing, WordsFault};
 use crate::taking::take;
 use crate::unprinted::Unprinted;
+use std::alloc::AllocError;
 use zone_rdata::{ipv4_octets_of, ipv6_octets_of, push_ipv4, push_ipv6};
+
+/// The version of an address.
+#[derive(Clone, Copy, Debug)]
+pub(crate) enum Version {
+    /// Of four octets.
+    V4,
+    /// Of sixteen octets.
+    V6,
+}
 
 /// Appends an address of four decimal numbers (RFC 1035 3.4.1).
 ///
@@ -43,32 +55,46 @@ pub(crate) fn read_ipv6(text: &[u8], out: &mut Vec<u8>) -> Result<(), WordsFaili
     Ok(())
 }
 
-/// Appends the address of four octets at the front (RFC 1035 3.4.1), and gives what is left.
+/// Appends the address at the front (RFC 1035 3.4.1, RFC 5952 4), and gives what is left.
 ///
 /// # Errors
 ///
 /// `NoData` where the octets end before, and `OutOfMemory`.
-pub(crate) fn print_ipv4<'o>(octets: &'o [u8], out: &mut Vec<u8>) -> Result<&'o [u8], Unprinted>
-    ensures printed { IfOk result (λ rest.
-        PrintsFront PrintsIpv4 StatesIpv4 octets.now rest.now out.old.items out.new.items) }
-    ensures none { IfErr result (IfNoData (NoFront StatesIpv4 octets.now)) }
+pub(crate) fn print_address<'o>(
+    version: Version,
+    octets: &'o [u8],
+    out: &mut Vec<u8>,
+) -> Result<&'o [u8], Unprinted>
+    ensures printed { IfOk result (λ rest. PrintsFront (PrintsAddress version)
+        (IsAddressOf version) octets.now rest.now out.old.items out.new.items) }
+    ensures none { IfErr result (IfNoData (NoFront (IsAddressOf version) octets.now)) }
 {
-    let (address, rest) = take(octets, 4)?;
-    push_ipv4(address, out)?;
+    let (address, rest) = take(octets, len_of(version))?;
+    push_address(version, address, out)?;
     Ok(rest)
 }
 
-/// Appends the address of sixteen octets at the front (RFC 5952 4), and gives what is left.
-///
-/// # Errors
-///
-/// `NoData` where the octets end before, and `OutOfMemory`.
-pub(crate) fn print_ipv6<'o>(octets: &'o [u8], out: &mut Vec<u8>) -> Result<&'o [u8], Unprinted>
-    ensures printed { IfOk result (λ rest.
-        PrintsFront PrintsIpv6 StatesIpv6 octets.now rest.now out.old.items out.new.items) }
-    ensures none { IfErr result (IfNoData (NoFront StatesIpv6 octets.now)) }
+/// Appends an address.
+pub(crate) fn push_address(
+    version: Version,
+    address: &[u8],
+    out: &mut Vec<u8>,
+) -> Result<(), AllocError>
+    requires { length address.now ≡ size_of version }
+    ensures { OnOk result (out.new.items ≡ out.old.items ++ address_text version address.now) }
 {
-    let (address, rest) = take(octets, 16)?;
-    push_ipv6(address, out)?;
-    Ok(rest)
+    match version {
+        Version::V4 => push_ipv4(address, out),
+        Version::V6 => push_ipv6(address, out),
+    }
+}
+
+/// How many octets an address has.
+pub(crate) fn len_of(version: Version) -> usize
+    ensures { result ≡ size_of version }
+{
+    match version {
+        Version::V4 => 4,
+        Version::V6 => 16,
+    }
 }

@@ -6,16 +6,8 @@ ghost use Rattle.zone_words.specs.declared.fault.WordsFault.TheVariants as fault
 
 use crate::cut::cut_at_first;
 use crate::fault::{WordsFailing, WordsFault};
+use crate::kinds::Version;
 use zone_rdata::{ipv4_octets_of, ipv6_octets_of};
-
-/// The version of an address.
-#[derive(Clone, Copy, Debug)]
-pub(super) enum Version {
-    /// Of four octets.
-    V4,
-    /// Of sixteen octets.
-    V6,
-}
 
 /// Appends the octets of an address.
 ///

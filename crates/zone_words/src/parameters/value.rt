@@ -2,12 +2,13 @@ ghost use Rattle.std.specs.Prelude.{IfErr, OnOk};
 ghost use Rattle.zone_words.specs.Fault.{AppendsStated, IfFault};
 ghost use Rattle.zone_words.specs.Parameters.Value.{FailsValue, RequiresKeys, StatesValue};
 
-use super::addresses::{Version, read_addresses};
+use super::addresses::read_addresses;
 use super::key::Key;
 use super::keys::read_mandatory;
 use super::protocols::read_protocols;
 use super::single::{read_ech, read_none, read_path, read_port};
 use crate::fault::WordsFailing;
+use crate::kinds::Version;
 use crate::unescaped::push_unescaped;
 
 /// Appends the octets of the value of a key, and adds the keys that it makes mandatory to those

@@ -1,33 +1,10 @@
-ghost use Rattle.std.specs.Prelude.{◌≡◌, ◌++◌, length, IfErr, OnOk};
+ghost use Rattle.std.specs.Prelude.{IfErr, OnOk};
 ghost use Rattle.zone_words.specs.Machine.PrintedParameters.{AppendsUnquoted, NoAddresses, StopsAs, address_text, size_of};
 ghost use Rattle.zone_words.specs.Parameters.Printed.{PrintsAddresses};
 ghost use Rattle.zone_words.specs.Printed.{IfNoData};
 
-use crate::parameters::addresses::Version;
+use crate::kinds::{Version, len_of, push_address};
 use crate::unprinted::Unprinted;
-use std::alloc::AllocError;
-use zone_rdata::{push_ipv4, push_ipv6};
-
-/// Appends an address.
-fn print_address(version: Version, address: &[u8], out: &mut Vec<u8>) -> Result<(), AllocError>
-    requires { length address.now ≡ size_of version }
-    ensures { OnOk result (out.new.items ≡ out.old.items ++ address_text version address.now) }
-{
-    match version {
-        Version::V4 => push_ipv4(address, out),
-        Version::V6 => push_ipv6(address, out),
-    }
-}
-
-/// How many octets an address has.
-fn len_of(version: Version) -> usize
-    ensures { result ≡ size_of version }
-{
-    match version {
-        Version::V4 => 4,
-        Version::V6 => 16,
-    }
-}
 
 /// Appends addresses parted by commas, after `=` (RFC 9460 7.3).
 pub(super) fn print_addresses(
@@ -53,7 +30,7 @@ pub(super) fn print_addresses(
         }
         let (address, after) = rest.split_at(len);
         out.extend_from_slice(mark)?;
-        print_address(version, address, out)?;
+        push_address(version, address, out)?;
         mark = b",";
         rest = after;
     }

@@ -83,16 +83,16 @@ pub returns-in-Tag-clause-none : goal.returns-in-Tag-clause-none
 returns-in-Tag-clause-none c = rw c.in-Tag.is (none_weaker c.print_tag.result _ _ (λ h. no_front_of_more StatesTag (StatesSomewhere kinds.Tag) c.args.octets.now (λ text part is. is.1) h) c.print_tag.ensures.none)
 
 pub returns-in-Ipv4-clause-printed : goal.returns-in-Ipv4-clause-printed
-returns-in-Ipv4-clause-printed c = rw c.in-Ipv4.is (IfOk-weaker c.print_ipv4.result _ _ (λ rest h. front_of_more (PrintsBare kinds.Ipv4) StatesIpv4 (StatesSomewhere kinds.Ipv4) c.args.octets.now rest.now _ _ (λ text part is. is.1) h) c.print_ipv4.ensures.printed)
+returns-in-Ipv4-clause-printed c = rw c.in-Ipv4.is (IfOk-weaker c.print_address.result _ _ (λ rest h. front_of_more (PrintsBare kinds.Ipv4) StatesIpv4 (StatesSomewhere kinds.Ipv4) c.args.octets.now rest.now _ _ (λ text part is. is.1) h) c.print_address.ensures.printed)
 
 pub returns-in-Ipv4-clause-none : goal.returns-in-Ipv4-clause-none
-returns-in-Ipv4-clause-none c = rw c.in-Ipv4.is (none_weaker c.print_ipv4.result _ _ (λ h. no_front_of_more StatesIpv4 (StatesSomewhere kinds.Ipv4) c.args.octets.now (λ text part is. is.1) h) c.print_ipv4.ensures.none)
+returns-in-Ipv4-clause-none c = rw c.in-Ipv4.is (none_weaker c.print_address.result _ _ (λ h. no_front_of_more StatesIpv4 (StatesSomewhere kinds.Ipv4) c.args.octets.now (λ text part is. is.1) h) c.print_address.ensures.none)
 
 pub returns-in-Ipv6-clause-printed : goal.returns-in-Ipv6-clause-printed
-returns-in-Ipv6-clause-printed c = rw c.in-Ipv6.is (IfOk-weaker c.print_ipv6.result _ _ (λ rest h. front_of_more (PrintsBare kinds.Ipv6) StatesIpv6 (StatesSomewhere kinds.Ipv6) c.args.octets.now rest.now _ _ (λ text part is. is.1) h) c.print_ipv6.ensures.printed)
+returns-in-Ipv6-clause-printed c = rw c.in-Ipv6.is (IfOk-weaker c.print_address-in-Ipv6.result _ _ (λ rest h. front_of_more (PrintsBare kinds.Ipv6) StatesIpv6 (StatesSomewhere kinds.Ipv6) c.args.octets.now rest.now _ _ (λ text part is. is.1) h) c.print_address-in-Ipv6.ensures.printed)
 
 pub returns-in-Ipv6-clause-none : goal.returns-in-Ipv6-clause-none
-returns-in-Ipv6-clause-none c = rw c.in-Ipv6.is (none_weaker c.print_ipv6.result _ _ (λ h. no_front_of_more StatesIpv6 (StatesSomewhere kinds.Ipv6) c.args.octets.now (λ text part is. is.1) h) c.print_ipv6.ensures.none)
+returns-in-Ipv6-clause-none c = rw c.in-Ipv6.is (none_weaker c.print_address-in-Ipv6.result _ _ (λ h. no_front_of_more StatesIpv6 (StatesSomewhere kinds.Ipv6) c.args.octets.now (λ text part is. is.1) h) c.print_address-in-Ipv6.ensures.none)
 
 pub returns-in-AddressType-clause-printed : goal.returns-in-AddressType-clause-printed
 returns-in-AddressType-clause-printed c = rw c.in-AddressType.is (IfOk-weaker c.print_address_type.result _ _ (λ rest h. front_of_more (PrintsBare (kinds.AddressType c.in-AddressType.optional)) (StatesAddressType c.in-AddressType.optional) (StatesSomewhere (kinds.AddressType c.in-AddressType.optional)) c.args.octets.now rest.now _ _ (λ text part is. is.1) h) c.print_address_type.ensures.printed)

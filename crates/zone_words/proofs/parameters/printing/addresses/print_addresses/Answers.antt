@@ -15,7 +15,7 @@ returns-then-rest-len-clause-none c = record {
 
 pub loop-mark-preserved : goal.loop-mark-preserved
 loop-mark-preserved c =
-    addresses_more (size_of c.args.version) (address_text c.args.version) c.args.value.now c.loop-mark.rest.now c.split_at.result.0.now c.split_at.result.1.now c.loop-mark.mark.now c.args.out.now.items c.loop-mark.out.items c.print_address.new.out.items c.loop-mark.invariant (cc (c.split_at.ensures.front, c.split_at.ensures.back, take-append-drop c.len_of-len.result c.loop-mark.rest.now)) (c.split_at.ensures.front_len ∙ c.len_of-len.ensures) (cc (c.in_ok-print_address.ensures, c.in_ok-extend_from_slice.ensures.items))
+    addresses_more (size_of c.args.version) (address_text c.args.version) c.args.value.now c.loop-mark.rest.now c.split_at.result.0.now c.split_at.result.1.now c.loop-mark.mark.now c.args.out.now.items c.loop-mark.out.items c.push_address.new.out.items c.loop-mark.invariant (cc (c.split_at.ensures.front, c.split_at.ensures.back, take-append-drop c.len_of-len.result c.loop-mark.rest.now)) (c.split_at.ensures.front_len ∙ c.len_of-len.ensures) (cc (c.in_ok-push_address.ensures, c.in_ok-extend_from_slice.ensures.items))
 
 pub returns-clause-printed : goal.returns-clause-printed
 returns-clause-printed c = addresses_ended (size_of c.args.version) (address_text c.args.version) c.args.value.now c.loop-mark.rest.now c.loop-mark.mark.now c.args.out.now.items c.loop-mark.out.items c.loop-mark.invariant (nil_from_length c.loop-mark.rest.now (grind (arith, nat_tests, c.is_empty-in-loop-mark.ensures, c.loop-mark-test.false))) (grind (arith, nat_tests, c.is_empty.ensures, c.if-is_empty.false))
