@@ -10,9 +10,9 @@ ghost use Rattle.zone_words.specs.FirstItem.{FirstFails, FirstStates};
 use crate::data_item::DataItem;
 use crate::fault::{WordsFailing, WordsFault};
 use crate::kinds::{
-    read_address_type, read_algorithm, read_base64, read_certificate_type, read_counted_digits,
-    read_discovery, read_eui48, read_eui64, read_first_quoted_value, read_first_string,
-    read_first_value, read_hash, read_hex, read_ipv4, read_ipv6, read_location, read_name,
+    Version, read_address, read_address_type, read_algorithm, read_base64, read_certificate_type,
+    read_counted_digits, read_discovery, read_eui48, read_eui64, read_first_quoted_value,
+    read_first_string, read_first_value, read_hash, read_hex, read_location, read_name,
     read_no_address, read_node_id, read_nothing, read_perhaps_string, read_perhaps_types,
     read_prefixes, read_public_key, read_salt, read_strings, read_tag, read_time, read_type,
     read_types, read_u8, read_u16, read_u32,
@@ -159,8 +159,8 @@ impl BareKind {
             BareKind::Salt => read_salt(text, out),
             BareKind::Hash => read_hash(text, out),
             BareKind::Tag => read_tag(text, out),
-            BareKind::Ipv4 => read_ipv4(text, out),
-            BareKind::Ipv6 => read_ipv6(text, out),
+            BareKind::Ipv4 => read_address(Version::V4, text, WordsFault::NotAnAddress, out),
+            BareKind::Ipv6 => read_address(Version::V6, text, WordsFault::NotAnAddress, out),
             BareKind::AddressType(optional) => read_address_type(text, optional, out),
             BareKind::Discovery => read_discovery(text, out),
             BareKind::NoAddress => read_no_address(text, out),

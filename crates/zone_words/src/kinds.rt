@@ -22,7 +22,7 @@ mod types;
 mod value;
 mod word;
 
-pub(crate) use address::{Version, len_of, print_address, push_address, read_ipv4, read_ipv6};
+pub(crate) use address::{Version, len_of, print_address, push_address, read_address};
 pub(crate) use base32_hex::{print_hash, read_hash};
 pub(crate) use base64_text::{print_base64, print_base64_item, push_decoded, read_base64};
 pub(crate) use eui::{print_eui, read_eui48, read_eui64};

@@ -1,7 +1,6 @@
 //! Addresses of four octets (RFC 1035 3.4.1) and of sixteen (RFC 4291 2.2).
 ghost use Rattle.std.specs.Prelude.{◌≡◌, ◌++◌, length, IfErr, IfOk, OnOk};
-ghost use Rattle.zone_words.specs.Fault.{AppendsStated, IfFault};
-ghost use Rattle.zone_words.specs.Kinds.Address.{FailsIpv4, FailsIpv6, StatesIpv4, StatesIpv6};
+ghost use Rattle.zone_words.specs.Fault.{AppendsStated, IfFault, NothingStated};
 ghost use Rattle.zone_words.specs.Machine.Parameters.{IsAddressOf};
 ghost use Rattle.zone_words.specs.Machine.PrintedParameters.{PrintsAddress, address_text, size_of};
 ghost use Rattle.zone_words.specs.Printed.{IfNoData, NoFront, PrintsFront};
@@ -21,38 +20,38 @@ pub(crate) enum Version {
     V6,
 }
 
-/// Appends an address of four decimal numbers (RFC 1035 3.4.1).
+/// Appends the octets of an address (RFC 1035 3.4.1, RFC 4291 2.2).
 ///
 /// # Errors
 ///
-/// `NotAnAddress`, and want of memory.
-pub(crate) fn read_ipv4(text: &[u8], out: &mut Vec<u8>) -> Result<(), WordsFailing>
-    ensures states { OnOk result
-        (AppendsStated (StatesIpv4 text.now) out.old.items out.new.items) }
-    ensures fault { IfErr result (IfFault (FailsIpv4 text.now)) }
+/// `own` where the text is no address; and want of memory. Either leaves `out` unchanged.
+pub(crate) fn read_address(
+    version: Version,
+    text: &[u8],
+    own: WordsFault,
+    out: &mut Vec<u8>,
+) -> Result<(), WordsFailing>
+    ensures stated { OnOk result
+        (AppendsStated (IsAddressOf version text.now) out.old.items out.new.items) }
+    ensures fault { IfErr result
+        (IfFault (NothingStated own (IsAddressOf version text.now))) }
 {
-    let Some(octets) = ipv4_octets_of(text) else {
-        return Err(WordsFailing::Fault(WordsFault::NotAnAddress));
-    };
-    out.extend_from_slice(&octets)?;
-    Ok(())
-}
-
-/// Appends an address of groups of hexadecimal digits (RFC 4291 2.2).
-///
-/// # Errors
-///
-/// `NotAnAddress`, and want of memory.
-pub(crate) fn read_ipv6(text: &[u8], out: &mut Vec<u8>) -> Result<(), WordsFailing>
-    ensures states { OnOk result
-        (AppendsStated (StatesIpv6 text.now) out.old.items out.new.items) }
-    ensures fault { IfErr result (IfFault (FailsIpv6 text.now)) }
-{
-    let Some(octets) = ipv6_octets_of(text) else {
-        return Err(WordsFailing::Fault(WordsFault::NotAnAddress));
-    };
-    out.extend_from_slice(&octets)?;
-    Ok(())
+    match version {
+        Version::V4 => {
+            let Some(octets) = ipv4_octets_of(text) else {
+                return Err(own.into());
+            };
+            out.extend_from_slice(&octets)?;
+            Ok(())
+        }
+        Version::V6 => {
+            let Some(octets) = ipv6_octets_of(text) else {
+                return Err(own.into());
+            };
+            out.extend_from_slice(&octets)?;
+            Ok(())
+        }
+    }
 }
 
 /// Appends the address at the front (RFC 1035 3.4.1, RFC 5952 4), and gives what is left.

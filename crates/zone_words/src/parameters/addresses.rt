@@ -6,37 +6,7 @@ ghost use Rattle.zone_words.specs.declared.fault.WordsFault.TheVariants as fault
 
 use crate::cut::cut_at_first;
 use crate::fault::{WordsFailing, WordsFault};
-use crate::kinds::Version;
-use zone_rdata::{ipv4_octets_of, ipv6_octets_of};
-
-/// Appends the octets of an address.
-///
-/// # Errors
-///
-/// `NotAValue`; and want of memory. Either leaves `out` unchanged.
-fn read_address(version: Version, text: &[u8], out: &mut Vec<u8>) -> Result<(), WordsFailing>
-    ensures stated { OnOk result
-        (AppendsStated (IsAddressOf version text.now) out.old.items out.new.items) }
-    ensures fault { IfErr result
-        (IfFault (NothingStated faults.NotAValue (IsAddressOf version text.now))) }
-{
-    match version {
-        Version::V4 => {
-            let Some(octets) = ipv4_octets_of(text) else {
-                return Err(WordsFault::NotAValue.into());
-            };
-            out.extend_from_slice(&octets)?;
-            Ok(())
-        }
-        Version::V6 => {
-            let Some(octets) = ipv6_octets_of(text) else {
-                return Err(WordsFault::NotAValue.into());
-            };
-            out.extend_from_slice(&octets)?;
-            Ok(())
-        }
-    }
-}
+use crate::kinds::{Version, read_address};
 
 /// Appends the octets of addresses that are parted by commas (RFC 9460 7.3).
 ///
@@ -55,9 +25,9 @@ pub(super) fn read_addresses(
 {
     let mut rest = text;
     while let Some((address, after)) = cut_at_first(rest, b',') {
-        read_address(version, address, out)?;
+        read_address(version, address, WordsFault::NotAValue, out)?;
         rest = after;
     }
-    read_address(version, rest, out)?;
+    read_address(version, rest, WordsFault::NotAValue, out)?;
     Ok(())
 }

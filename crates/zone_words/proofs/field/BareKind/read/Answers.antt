@@ -1,7 +1,7 @@
 use Rattle.zone_words.proofs.field.BareKind.read.Goals as goal
 
 pub returns-in-Ipv6-clause-states : goal.returns-in-Ipv6-clause-states
-returns-in-Ipv6-clause-states c = rw c.in-Ipv6.is c.read_ipv6.ensures.states
+returns-in-Ipv6-clause-states c = rw c.in-Ipv6.is c.read_address-in-Ipv6.ensures.stated
 
 pub returns-in-Time-clause-fault : goal.returns-in-Time-clause-fault
 returns-in-Time-clause-fault c = rw c.in-Time.is c.read_time.ensures.fault

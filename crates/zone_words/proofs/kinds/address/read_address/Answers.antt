@@ -1,5 +1,5 @@
 use Rattle.zone_words.proofs.Common.{refl}
-use Rattle.zone_words.proofs.parameters.addresses.read_address.Goals as goal
+use Rattle.zone_words.proofs.kinds.address.read_address.Goals as goal
 
 pub returns-in_default-ipv6_octets_of-clause-fault : goal.returns-in_default-ipv6_octets_of-clause-fault
 returns-in_default-ipv6_octets_of-clause-fault c = rw (c.into-in_default-ipv6_octets_of.ensures, c.in-V6.is) (refl, c.in_default-ipv6_octets_of.ensures.none)
