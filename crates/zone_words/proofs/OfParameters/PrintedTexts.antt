@@ -1,6 +1,7 @@
 -- Texts of values that are printed state the octets of their keys.
 use Rattle.zone_words.proofs.Common.{AllByRecursion, AllByRecursion-append, AllByRecursion-back, AllByRecursion-front, AllZip, Alpn, AreOctets, Bool, DohPath, Ech, IsDecimal, IsKeyText, IsPermutation-refl, Ipv4Hint, Ipv6Hint, Key, List, ListsAddresses, ListsKeys, ListsProtocols, Mandatory, NoDefaultAlpn, Numbered, Ohttp, Port, Sent, Unescaped, [], and_parts, ap, arith, codes, false, flat_map, if◌then◌else◌, inl, inr, join_with_byte, key_text, length, list_all, listed, map, nat_tests, not, refl, subst, suc, sym, true, with_length, zero, ℕ, ◌&&◌, ◌<◌, ◌==◌, ◌∙◌, ◌∷◌, ◌≡◌, ◌≢◌, ◌||◌}
 use Rattle.std.proofs.Common.{decimal}
+use Rattle.std.proofs.lemmas.List.{length-map}
 use Rattle.zone_name.specs.Spelling.{is_digit}
 use Rattle.zone_rdata.proofs.Addresses.AddressLaws.{ipv4_plain, ipv4_printed, ipv6_plain, ipv6_printed}
 use Rattle.zone_rdata.proofs.Addresses.Cut.{split_join}
@@ -85,15 +86,11 @@ addresses_are Is text_of text octets addresses some each value printed = record 
   value = value;
 }
 
-some_mapped : (text_of : List ℕ → List ℕ) (xs : List (List ℕ)) → 0 < length xs → 0 < length (map text_of xs)
-some_mapped text_of [] some = some
-some_mapped text_of (x ∷ xs) some = omega arith
-
 ipv4_state : (text octets : List ℕ) → AreOctets octets → PrintsAddresses 4 ipv4_text text octets → ListsAddresses IsIpv4Address text octets
-ipv4_state text octets low p = addresses_are IsIpv4Address ipv4_text text octets p.addresses (some_mapped ipv4_text p.addresses p.some) (ipv4_each p.addresses p.each (subst AreOctets p.value low)) p.value p.printed
+ipv4_state text octets low p = addresses_are IsIpv4Address ipv4_text text octets p.addresses (omega (arith, length-map p.addresses ipv4_text, p.some)) (ipv4_each p.addresses p.each (subst AreOctets p.value low)) p.value p.printed
 
 ipv6_state : (text octets : List ℕ) → AreOctets octets → PrintsAddresses 16 ipv6_text text octets → ListsAddresses IsIpv6Address text octets
-ipv6_state text octets low p = addresses_are IsIpv6Address ipv6_text text octets p.addresses (some_mapped ipv6_text p.addresses p.some) (ipv6_each p.addresses p.each (subst AreOctets p.value low)) p.value p.printed
+ipv6_state text octets low p = addresses_are IsIpv6Address ipv6_text text octets p.addresses (omega (arith, length-map p.addresses ipv6_text, p.some)) (ipv6_each p.addresses p.each (subst AreOctets p.value low)) p.value p.printed
 
 -- ---- protocols
 
@@ -116,10 +113,13 @@ joined_each [] each = tt
 joined_each (text ∷ []) each = each.0
 joined_each (text ∷ next ∷ texts) each = AllByRecursion-append (λ c. c < 256) text (44 ∷ join_with_byte 44 (next ∷ texts)) each.0 (omega arith, joined_each (next ∷ texts) each.1)
 
+pub protocols_low : (protocols : List (List ℕ)) → AreOctets (flat_map with_length protocols) → AreOctets (join_with_byte 44 (map escaped_item protocols))
+protocols_low protocols low = joined_each (map escaped_item protocols) (items_each protocols low)
+
 protocols_state : (text octets : List ℕ) → AreOctets octets → PrintsProtocols text octets → ListsProtocols text octets
 protocols_state text octets low p =
     let spelt = join_with_byte 44 (map escaped_item p.protocols) in
-    let each = joined_each (map escaped_item p.protocols) (items_each p.protocols (subst AreOctets p.value low)) in
+    let each = protocols_low p.protocols (subst AreOctets p.value low) in
     record {
       spelt = spelt;
       unescaped = subst (λ t. Unescaped t spelt) (sym p.printed) (value_unescaped spelt each);

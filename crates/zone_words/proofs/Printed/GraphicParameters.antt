@@ -1,7 +1,9 @@
 -- Parameters that are printed stand on a line as they are, of octets that a terminal shows.
+use Rattle.std.proofs.lemmas.List.{length-map}
 use Rattle.std.specs.Prelude.{decimal}
 use Rattle.zone_rdata.specs.Address.{ipv4_text, ipv6_text}
 use Rattle.zone_words.proofs.Common.{AllByRecursion, AllByRecursion-append, AllByRecursion-back, AllByRecursion-front, AllZip, Alpn, AreOctets, Bool, DohPath, Ech, Ipv4Hint, Ipv6Hint, Key, List, Mandatory, Numbered, Port, Sent, TouchingItem, [], arith, codes, false, flat_map, if◌then◌else◌, inl, inr, join_with_byte, key_text, length, map, refl, subst, suc, sym, true, with_length, zero, ℕ, ◌<◌, ◌==◌, ◌||◌, ◌∷◌, ◌≡◌}
+use Rattle.zone_words.proofs.OfParameters.PrintedTexts.{protocols_low}
 use Rattle.zone_words.proofs.Printed.Graphic.{IsGraphicInside, IsGraphicItem, IsGraphicText, graphic_append, graphic_decimal, graphic_inside, graphic_join, graphic_tested}
 use Rattle.zone_words.proofs.Printed.GraphicTexts.{encoded_graphic, ipv4_graphic, ipv6_graphic}
 use Rattle.zone_words.specs.Parameters.Printed.{IsAmong, IsSendable, PrintsAddresses, PrintsKeys, PrintsParameter, PrintsParameters, PrintsPort, PrintsProtocols, PrintsValue, ValueText, by_name, by_number, in_quotes, left_out, parameter_items, unquoted, usual_key}
@@ -41,13 +43,9 @@ keys_graphic : (parameters : List Sent) (numbers : List ℕ) → AllByRecursion 
 keys_graphic parameters [] each there = tt
 keys_graphic parameters (n ∷ numbers) each there = (usual_graphic n (among_short parameters n each there.0), keys_graphic parameters numbers each there.1)
 
-some_keys : (numbers : List ℕ) → 0 < length numbers → 0 < length (map (λ number. key_text (usual_key number)) numbers)
-some_keys [] some = absurd (omega arith)
-some_keys (n ∷ numbers) some = omega arith
-
 mandatory_graphic : (parameters : List Sent) (text octets : List ℕ) → AllByRecursion IsSendable parameters → PrintsKeys parameters text octets → IsGraphicText text
 mandatory_graphic parameters text octets each p =
-    subst IsGraphicText (sym p.printed) (graphic_join 44 (map (λ number. key_text (usual_key number)) p.numbers) refl (some_keys p.numbers p.some) (keys_graphic parameters p.numbers each p.there))
+    subst IsGraphicText (sym p.printed) (graphic_join 44 (map (λ number. key_text (usual_key number)) p.numbers) refl (omega (arith, length-map p.numbers (λ number. key_text (usual_key number)), p.some)) (keys_graphic parameters p.numbers each p.there))
 
 -- ---- addresses
 
@@ -58,35 +56,15 @@ addresses_graphic size address_text goes (address ∷ addresses) each low = (
   addresses_graphic size address_text goes addresses each.1 (AllByRecursion-back (λ c. c < 256) address (flat_map (λ a. a) addresses) low),
 )
 
-some_addresses : (address_text : List ℕ → List ℕ) (addresses : List (List ℕ)) → 0 < length addresses → 0 < length (map address_text addresses)
-some_addresses address_text [] some = absurd (omega arith)
-some_addresses address_text (address ∷ addresses) some = omega arith
-
 hint_graphic : (size : ℕ) (address_text : List ℕ → List ℕ) → ((octets : List ℕ) → length octets ≡ size → AreOctets octets → IsGraphicText (address_text octets)) → (text octets : List ℕ) → AreOctets octets → PrintsAddresses size address_text text octets → IsGraphicText text
 hint_graphic size address_text goes text octets low p =
-    subst IsGraphicText (sym p.printed) (graphic_join 44 (map address_text p.addresses) refl (some_addresses address_text p.addresses p.some) (addresses_graphic size address_text goes p.addresses p.each (subst AreOctets p.value low)))
+    subst IsGraphicText (sym p.printed) (graphic_join 44 (map address_text p.addresses) refl (omega (arith, length-map p.addresses address_text, p.some)) (addresses_graphic size address_text goes p.addresses p.each (subst AreOctets p.value low)))
 
 -- ---- protocols
 
-escaped_by : (special : Bool) (c : ℕ) → c < 256 → AreOctets (if special then 92 ∷ c ∷ [] else c ∷ [])
-escaped_by true c low = (omega arith, (low, tt))
-escaped_by false c low = (low, tt)
-
-escaped_low : (octets : List ℕ) → AreOctets octets → AreOctets (escaped_item octets)
-escaped_low [] low = tt
-escaped_low (c ∷ octets) low = AllByRecursion-append (λ c. c < 256) (escaped_octet c) (escaped_item octets) (escaped_by (c == 44 || c == 92) c low.0) (escaped_low octets low.1)
-
-joined_low : (protocols : List (List ℕ)) → AreOctets (flat_map with_length protocols) → AreOctets (join_with_byte 44 (map escaped_item protocols))
-joined_low [] low = tt
-joined_low (name ∷ []) low = escaped_low name (AllByRecursion-front (λ c. c < 256) name [] low.1)
-joined_low (name ∷ next ∷ protocols) low =
-    AllByRecursion-append (λ c. c < 256) (escaped_item name) (44 ∷ join_with_byte 44 (map escaped_item (next ∷ protocols)))
-    (escaped_low name (AllByRecursion-front (λ c. c < 256) name (flat_map with_length (next ∷ protocols)) low.1))
-    (omega arith, joined_low (next ∷ protocols) (AllByRecursion-back (λ c. c < 256) (with_length name) (flat_map with_length (next ∷ protocols)) low))
-
 protocols_graphic : (text octets : List ℕ) → AreOctets octets → PrintsProtocols text octets → IsGraphicInside text
 protocols_graphic text octets low p =
-    subst IsGraphicInside (sym p.printed) (graphic_inside (join_with_byte 44 (map escaped_item p.protocols)) (joined_low p.protocols (subst AreOctets p.value low)))
+    subst IsGraphicInside (sym p.printed) (graphic_inside (join_with_byte 44 (map escaped_item p.protocols)) (protocols_low p.protocols (subst AreOctets p.value low)))
 
 -- ---- values
 
