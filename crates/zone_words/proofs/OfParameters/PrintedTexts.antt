@@ -1,5 +1,5 @@
 -- Texts of values that are printed state the octets of their keys.
-use Rattle.zone_words.proofs.Common.{AllByRecursion, AllByRecursion-append, AllByRecursion-back, AllByRecursion-front, AllZip, Alpn, AreOctets, Bool, DohPath, Ech, IsDecimal, IsKeyText, IsPermutation-refl, Ipv4Hint, Ipv6Hint, Key, List, ListsAddresses, ListsKeys, ListsProtocols, Mandatory, NoDefaultAlpn, Numbered, Ohttp, Port, Sent, Unescaped, [], and_parts, ap, arith, codes, false, flat_map, if◌then◌else◌, inl, inr, join_with_byte, key_text, length, list_all, listed, map, nat_tests, not, refl, subst, suc, sym, true, with_length, zero, ℕ, ◌&&◌, ◌<◌, ◌==◌, ◌∙◌, ◌∷◌, ◌≡◌, ◌≢◌, ◌||◌}
+use Rattle.zone_words.proofs.Common.{AllByRecursion, AllByRecursion-append, AllByRecursion-back, AllByRecursion-front, AllZip, Alpn, AreOctets, Bool, DohPath, Ech, IsAddressOf, IsDecimal, IsKeyText, IsPermutation-refl, Ipv4Hint, Ipv6Hint, Key, List, ListsAddresses, ListsKeys, ListsProtocols, Mandatory, NoDefaultAlpn, Numbered, Ohttp, Port, Sent, Unescaped, [], and_parts, ap, arith, codes, false, flat_map, if◌then◌else◌, inl, inr, join_with_byte, key_text, length, list_all, listed, map, nat_tests, not, refl, subst, suc, sym, true, with_length, zero, ℕ, ◌&&◌, ◌<◌, ◌==◌, ◌∙◌, ◌∷◌, ◌≡◌, ◌≢◌, ◌||◌}
 use Rattle.std.proofs.Common.{decimal}
 use Rattle.std.proofs.lemmas.List.{length-map}
 use Rattle.zone_name.specs.Spelling.{is_digit}
@@ -7,14 +7,17 @@ use Rattle.zone_rdata.proofs.Addresses.AddressLaws.{ipv4_plain, ipv4_printed, ip
 use Rattle.zone_rdata.proofs.Addresses.Cut.{split_join}
 use Rattle.zone_rdata.proofs.Common.{each_weaker}
 use Rattle.zone_rdata.proofs.Items.GenericLaws.{decimal-is}
-use Rattle.zone_rdata.specs.Address.{IsAddressOctet, IsIpv4Address, IsIpv6Address, ipv4_text, ipv6_text}
+use Rattle.zone_rdata.specs.Address.{IsAddressOctet, ipv4_text, ipv6_text}
 use Rattle.zone_rdata.specs.Strings.{inside_text}
 use Rattle.zone_words.proofs.Printed.ReadValues.{value_unescaped}
 use Rattle.zone_words.proofs.UnescapedTexts.{unescaped_once}
 use Rattle.zone_words.specs.Machine.Cuts.{IsMissing}
+use Rattle.zone_words.specs.Machine.PrintedParameters.{address_text, size_of}
 use Rattle.zone_words.specs.Parameters.Keys.{number_of}
 use Rattle.zone_words.specs.Parameters.Printed.{IsAmong, IsSendable, IsStated, PrintsAddresses, PrintsKeys, PrintsPort, PrintsProtocols, PrintsValue, ValueText, in_quotes, left_out, unquoted, usual_key}
 use Rattle.zone_words.specs.Parameters.Value.{StatesPort, escaped_item, escaped_octet}
+use Rattle.zone_words.specs.declared.kinds.address.Version.{Version}
+use Rattle.zone_words.specs.declared.kinds.address.Version.TheVariants.{V4, V6}
 
 -- ---- keys
 
@@ -65,32 +68,26 @@ listed_again (text ∷ texts) some lacks = split_join 44 text texts lacks
 no_comma : (c : ℕ) → IsAddressOctet c → c ≢ 44
 no_comma c is = grind arith
 
-ipv4_each : (addresses : List (List ℕ)) → AllByRecursion (λ a. length a ≡ 4) addresses → AreOctets (flat_map (λ a. a) addresses) → AllByRecursion (IsMissing 44) (map ipv4_text addresses) × AllZip IsIpv4Address (map ipv4_text addresses) addresses
-ipv4_each [] sized low = (tt, tt)
-ipv4_each (a ∷ addresses) sized low =
-    let own = AllByRecursion-front (λ c. c < 256) a (flat_map (λ a. a) addresses) low in
-    let more = ipv4_each addresses sized.1 (AllByRecursion-back (λ c. c < 256) a (flat_map (λ a. a) addresses) low) in
-    ((each_weaker (λ d. d ≢ 44) no_comma (ipv4_text a) (ipv4_plain a sized.0 own), more.0), (ipv4_printed a sized.0 own, more.1))
+address_again : (version : Version) (address : List ℕ) → length address ≡ size_of version → AreOctets address → AllByRecursion (λ d. d ≢ 44) (address_text version address) × IsAddressOf version (address_text version address) address
+address_again V4 a sized low = (each_weaker (λ d. d ≢ 44) no_comma (ipv4_text a) (ipv4_plain a sized low), ipv4_printed a sized low)
+address_again V6 a sized low = (each_weaker (λ d. d ≢ 44) no_comma (ipv6_text a) (ipv6_plain a sized low), ipv6_printed a sized low)
 
-ipv6_each : (addresses : List (List ℕ)) → AllByRecursion (λ a. length a ≡ 16) addresses → AreOctets (flat_map (λ a. a) addresses) → AllByRecursion (IsMissing 44) (map ipv6_text addresses) × AllZip IsIpv6Address (map ipv6_text addresses) addresses
-ipv6_each [] sized low = (tt, tt)
-ipv6_each (a ∷ addresses) sized low =
-    let own = AllByRecursion-front (λ c. c < 256) a (flat_map (λ a. a) addresses) low in
-    let more = ipv6_each addresses sized.1 (AllByRecursion-back (λ c. c < 256) a (flat_map (λ a. a) addresses) low) in
-    ((each_weaker (λ d. d ≢ 44) no_comma (ipv6_text a) (ipv6_plain a sized.0 own), more.0), (ipv6_printed a sized.0 own, more.1))
+addresses_each : (version : Version) (addresses : List (List ℕ)) → AllByRecursion (λ a. length a ≡ size_of version) addresses → AreOctets (flat_map (λ a. a) addresses) → AllByRecursion (IsMissing 44) (map (address_text version) addresses) × AllZip (IsAddressOf version) (map (address_text version) addresses) addresses
+addresses_each version [] sized low = (tt, tt)
+addresses_each version (a ∷ addresses) sized low =
+    let again = address_again version a sized.0 (AllByRecursion-front (λ c. c < 256) a (flat_map (λ a. a) addresses) low) in
+    let more = addresses_each version addresses sized.1 (AllByRecursion-back (λ c. c < 256) a (flat_map (λ a. a) addresses) low) in
+    ((again.0, more.0), (again.1, more.1))
 
-addresses_are : (Is : List ℕ → List ℕ → Type 0) (text_of : List ℕ → List ℕ) (text octets : List ℕ) (addresses : List (List ℕ)) → 0 < length (map text_of addresses) → AllByRecursion (IsMissing 44) (map text_of addresses) × AllZip Is (map text_of addresses) addresses → octets ≡ flat_map (λ a. a) addresses → text ≡ join_with_byte 44 (map text_of addresses) → ListsAddresses Is text octets
-addresses_are Is text_of text octets addresses some each value printed = record {
-  addresses = addresses;
-  each = subst (λ t. AllZip Is t addresses) (sym (ap listed printed ∙ listed_again (map text_of addresses) some each.0)) each.1;
-  value = value;
-}
-
-ipv4_state : (text octets : List ℕ) → AreOctets octets → PrintsAddresses 4 ipv4_text text octets → ListsAddresses IsIpv4Address text octets
-ipv4_state text octets low p = addresses_are IsIpv4Address ipv4_text text octets p.addresses (omega (arith, length-map p.addresses ipv4_text, p.some)) (ipv4_each p.addresses p.each (subst AreOctets p.value low)) p.value p.printed
-
-ipv6_state : (text octets : List ℕ) → AreOctets octets → PrintsAddresses 16 ipv6_text text octets → ListsAddresses IsIpv6Address text octets
-ipv6_state text octets low p = addresses_are IsIpv6Address ipv6_text text octets p.addresses (omega (arith, length-map p.addresses ipv6_text, p.some)) (ipv6_each p.addresses p.each (subst AreOctets p.value low)) p.value p.printed
+addresses_state : (version : Version) (text octets : List ℕ) → AreOctets octets → PrintsAddresses (size_of version) (address_text version) text octets → ListsAddresses (IsAddressOf version) text octets
+addresses_state version text octets low p =
+    let each = addresses_each version p.addresses p.each (subst AreOctets p.value low) in
+    let texts = map (address_text version) p.addresses in
+    record {
+      addresses = p.addresses;
+      each = subst (λ t. AllZip (IsAddressOf version) t p.addresses) (sym (ap listed p.printed ∙ listed_again texts (omega (arith, length-map p.addresses (address_text version), p.some)) each.0)) each.1;
+      value = p.value;
+    }
 
 -- ---- protocols
 
@@ -185,9 +182,9 @@ value_printed all Mandatory (unquoted text) octets sendable low p = record { val
 value_printed all Alpn (in_quotes text) octets sendable low p = record { value = protocols_state text octets low p; required = []; requires_keys = refl; there = tt }
 value_printed all NoDefaultAlpn left_out octets sendable low p = record { value = (refl, p); required = []; requires_keys = refl; there = tt }
 value_printed all Port (unquoted text) octets sendable low p = record { value = port_state text octets p; required = []; requires_keys = refl; there = tt }
-value_printed all Ipv4Hint (unquoted text) octets sendable low p = record { value = ipv4_state text octets low p; required = []; requires_keys = refl; there = tt }
+value_printed all Ipv4Hint (unquoted text) octets sendable low p = record { value = addresses_state V4 text octets low p; required = []; requires_keys = refl; there = tt }
 value_printed all Ech (unquoted text) octets sendable low p = record { value = record { some = p.0; each = low; encoded = p.1 }; required = []; requires_keys = refl; there = tt }
-value_printed all Ipv6Hint (unquoted text) octets sendable low p = record { value = ipv6_state text octets low p; required = []; requires_keys = refl; there = tt }
+value_printed all Ipv6Hint (unquoted text) octets sendable low p = record { value = addresses_state V6 text octets low p; required = []; requires_keys = refl; there = tt }
 value_printed all DohPath (in_quotes text) octets sendable low p =
     let is = quoted_state text octets low p.1 in
     record { value = (is, text_some text octets p.0 is); required = []; requires_keys = refl; there = tt }
