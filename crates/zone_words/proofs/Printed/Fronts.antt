@@ -1,6 +1,6 @@
 -- Parts at the front of octets that are printed.
 use Rattle.zone_rdata.proofs.Octets.Sent.{append_same}
-use Rattle.zone_words.proofs.Common.{IsInOctets, List, Width, ap, arith, byte_len, length, length-append, refl, sym, to_be_bytes, w8, ℕ, ◌%◌, ◌++◌, ◌+◌, ◌<◌, ◌^◌, ◌∙◌, ◌∷◌, ◌≡◌}
+use Rattle.zone_words.proofs.Common.{IsInOctets, List, Width, ap, arith, byte_len, length, length-append, refl, sym, to_be_bytes, w8, ℕ, ◌%◌, ◌++◌, ◌<◌, ◌^◌, ◌∙◌, ◌∷◌, ◌≡◌}
 use Rattle.zone_words.specs.Printed.{NoFront, PrintsFront}
 
 -- ---- parts of so many octets

@@ -2,12 +2,12 @@
 use Rattle.std.proofs.lemmas.List.{length-map}
 use Rattle.std.specs.Prelude.{decimal}
 use Rattle.zone_rdata.specs.Address.{ipv4_text, ipv6_text}
-use Rattle.zone_words.proofs.Common.{AllByRecursion, AllByRecursion-append, AllByRecursion-back, AllByRecursion-front, AllZip, Alpn, AreOctets, Bool, DohPath, Ech, Ipv4Hint, Ipv6Hint, Key, List, Mandatory, Numbered, Port, Sent, TouchingItem, [], arith, codes, false, flat_map, if◌then◌else◌, inl, inr, join_with_byte, key_text, length, map, refl, subst, suc, sym, true, with_length, zero, ℕ, ◌<◌, ◌==◌, ◌||◌, ◌∷◌, ◌≡◌}
+use Rattle.zone_words.proofs.Common.{AllByRecursion, AllByRecursion-append, AllByRecursion-back, AllByRecursion-front, AllZip, Alpn, AreOctets, DohPath, Ech, Ipv4Hint, Ipv6Hint, Key, List, Mandatory, Numbered, Port, Sent, TouchingItem, [], arith, codes, flat_map, inl, inr, join_with_byte, key_text, length, map, refl, subst, suc, sym, true, zero, ℕ, ◌<◌, ◌∷◌, ◌≡◌}
 use Rattle.zone_words.proofs.OfParameters.PrintedTexts.{protocols_low}
 use Rattle.zone_words.proofs.Printed.Graphic.{IsGraphicInside, IsGraphicItem, IsGraphicText, graphic_append, graphic_decimal, graphic_inside, graphic_join, graphic_tested}
 use Rattle.zone_words.proofs.Printed.GraphicTexts.{encoded_graphic, ipv4_graphic, ipv6_graphic}
 use Rattle.zone_words.specs.Parameters.Printed.{IsAmong, IsSendable, PrintsAddresses, PrintsKeys, PrintsParameter, PrintsParameters, PrintsPort, PrintsProtocols, PrintsValue, ValueText, by_name, by_number, in_quotes, left_out, parameter_items, unquoted, usual_key}
-use Rattle.zone_words.specs.Parameters.Value.{escaped_item, escaped_octet}
+use Rattle.zone_words.specs.Parameters.Value.{escaped_item}
 use Rattle.zone_words.specs.WordsLine.{IsQuoted}
 
 -- such an item, which is in quotes if it touches the one before it

@@ -1,4 +1,4 @@
-use Rattle.zone_words.proofs.Common.{[], arith, length, nat_tests, nil_from_length, subst, sym, ℕ, ◌+◌, ◌<◌, ◌≡◌}
+use Rattle.zone_words.proofs.Common.{arith, length, nat_tests, nil_from_length, subst, ℕ, ◌+◌, ◌<◌, ◌≡◌}
 use Rattle.zone_words.proofs.Printed.PassedNone.{none_passed}
 use Rattle.zone_words.proofs.Printed.Types.{HavePrinted, all_printed, low_window, next_printed, no_kind, no_window, none_printed}
 use Rattle.zone_words.specs.Machine.Windows.{window_of}

@@ -1,6 +1,6 @@
-use Rattle.zone_words.proofs.Common.{[], append-nil, ap, arith, drop, length, nat_tests, nil_from_length, sym, take, take-append-drop, ◌++◌, ◌∙◌, ◌≡◌}
+use Rattle.zone_words.proofs.Common.{[], append-nil, arith, nat_tests, nil_from_length, sym, take-append-drop, ◌∙◌}
 use Rattle.zone_words.proofs.OfParameters.PrintedAddresses.{addresses_cut_short, addresses_ended, addresses_more, addresses_some}
-use Rattle.zone_words.specs.Machine.PrintedParameters.{address_text, marked, size_of}
+use Rattle.zone_words.specs.Machine.PrintedParameters.{address_text, size_of}
 use Rattle.zone_words.proofs.parameters.printing.addresses.print_addresses.Goals as goal
 
 pub returns-then-is_empty-clause-none : goal.returns-then-is_empty-clause-none

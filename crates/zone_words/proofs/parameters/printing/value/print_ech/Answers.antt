@@ -1,4 +1,4 @@
-use Rattle.zone_words.proofs.Common.{[], ap, append_assoc, arith, nat_tests, refl, ◌++◌, ◌<◌, ◌∙◌, ◌∷◌, length, ◌≡◌}
+use Rattle.zone_words.proofs.Common.{[], ap, append_assoc, arith, nat_tests, refl, ◌++◌, ◌∙◌, ◌∷◌, ◌≡◌}
 use Rattle.base64.specs.Engines.{standard}
 use Rattle.base64.specs.GeneralPurpose.{encode_of}
 use Rattle.zone_words.proofs.Printed.PassedNone.{none_passed}
