@@ -32,7 +32,7 @@ capped_over text most (Some n) fault small found none over =
 
 -- ---- the number of an item
 
-of_digits : (text : List ℕ) (n : ℕ) → IsDecimal text n → digits_number text ≡ Some n
+pub of_digits : (text : List ℕ) (n : ℕ) → IsDecimal text n → digits_number text ≡ Some n
 of_digits [] n is = absurd (omega (arith, is.some))
 of_digits (c ∷ text) n is = rw (list_all-from_AllPass is_digit (c ∷ text) (All-from_recursion (λ d. is_digit d ≡ true) (c ∷ text) is.digits)) (ap Some (sym is.value))
 

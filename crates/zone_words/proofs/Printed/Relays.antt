@@ -1,0 +1,1 @@
+-- AMTRELAY data, whose discovery's bit is in the octet of its type.
