@@ -64,16 +64,19 @@ after_one origin [] octets p = absurd p
 after_one origin (quoted text ∷ items) octets p = absurd p
 after_one origin (bare text ∷ items) octets p = record { value = p.value; is = p.written }
 
-record AfterTwo (octets : List ℕ) : Type 0 where
-  high : ℕ
-  low : ℕ
-  value : List ℕ
-  is : octets ≡ high ∷ low ∷ value
+pub record AfterTwo (octets : List ℕ) : Type 0 where
+  pub high : ℕ
+  pub low : ℕ
+  pub value : List ℕ
+  pub is : octets ≡ high ∷ low ∷ value
+
+pub key_after : (text octets : List ℕ) → StatesPublicKey text octets → AfterTwo octets
+key_after text octets p = record { high = _; low = _; value = p.key; is = p.written }
 
 after_two : (origin : Labels) (items : List RawItem) (octets : List ℕ) → FirstStates (StatesBare origin PublicKey) items octets → AfterTwo octets
 after_two origin [] octets p = absurd p
 after_two origin (quoted text ∷ items) octets p = absurd p
-after_two origin (bare text ∷ items) octets p = record { high = _; low = _; value = p.key; is = p.written }
+after_two origin (bare text ∷ items) octets p = key_after text octets p
 
 pub hip_parts : (origin : Labels) (items : List TouchingItem) (parts : List (List ℕ)) → StateParts origin hip_fields items parts → HipParts parts
 hip_parts origin items [] p = absurd p

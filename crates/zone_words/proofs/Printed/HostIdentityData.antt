@@ -2,7 +2,7 @@
 use Rattle.zone_rdata.proofs.Octets.Sent.{append_same}
 use Rattle.zone_rdata.specs.Limits.{longest_data}
 use Rattle.zone_words.proofs.Common.{List, NamedField, [], ap, append_assoc, arith, length, refl, subst, sym, TouchingItem, StateParts, ℕ, ◌++◌, ◌<◌, ◌∙◌, ◌∷◌, ◌≡◌, ◌≤◌}
-use Rattle.zone_words.proofs.HostIdentities.{HipParts, hip_parts, in_octets, in_words}
+use Rattle.zone_words.proofs.HostIdentities.{HipParts, hip_parts, in_octets, in_words, key_after}
 use Rattle.zone_words.proofs.Printed.Numbers.{u8_printed_states}
 use Rattle.zone_words.proofs.Printed.OwnFields.{one_printed, u8_octet}
 use Rattle.zone_words.specs.Data.{joined, left_over, lengths_first}
@@ -68,14 +68,15 @@ printed_parts items (a ∷ t ∷ k ∷ s ∷ []) p =
     let y = one_printed HostIdentityTag p.4.0 p.4.1 p.1 t p.4.2 p.4.3 in
     let z = one_printed PublicKey p.4.4.0 p.4.4.1 p.4.1 k p.4.4.2 p.4.4.3 in
     let number = u8_printed_states x.text a x.printed in
+    let key = key_after z.text k z.printed in
     record {
       algorithm = number.number;
       tag = y.printed.value;
-      high = _;
-      low = _;
-      key = z.printed.key;
+      high = key.high;
+      low = key.low;
+      key = key.value;
       servers = s;
-      are = cc (u8_octet x.text a number, y.printed.written, z.printed.written);
+      are = cc (u8_octet x.text a number, y.printed.written, key.is);
     }
 
 pub hip_printed : (fields : List NamedField) (octets ordered empty old new : List ℕ) → empty ≡ [] → fields ≡ hip_fields → PutsLengthsWithin octets empty ordered → length octets ≤ longest_data → PrintsTouching (PrintsFields fields) ordered old new → PrintsTouching (PrintsData of_hip) octets old new

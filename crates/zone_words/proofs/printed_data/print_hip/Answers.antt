@@ -6,7 +6,7 @@ use Rattle.zone_words.proofs.printed_data.print_hip.Goals as goal
 
 pub returns-in_err-push_lengths_within-clause-none :
     goal.returns-in_err-push_lengths_within-clause-none
-returns-in_err-push_lengths_within-clause-none c = none_passed c.from_residual.result c.in_err-push_lengths_within.field-0.0 _ _ c.from_residual.ensures (hip_cut c.args.octets.now) c.in_err-push_lengths_within.ensures.none
+returns-in_err-push_lengths_within-clause-none c = none_passed c.from_residual.result c.in_err-push_lengths_within.field-0.0 _ _ c.from_residual.ensures.1 (hip_cut c.args.octets.now) c.in_err-push_lengths_within.ensures.none
 
 pub returns-clause-printed : goal.returns-clause-printed
 returns-clause-printed c =
