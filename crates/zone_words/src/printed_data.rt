@@ -54,7 +54,15 @@ fn print_fields(fields: &[Field], octets: &[u8], out: &mut Vec<u8>) -> Result<()
     ensures none { IfErr result (IfNoData (OnlyLastPrintsAll (map field_of fields.now)
         → NoItemsOf (map field_of fields.now) octets.now)) }
 {
-    unreachable!()
+    let mut rest = octets;
+    for field in fields {
+        rest = field.1.print(rest, out)?;
+    }
+    if rest.is_empty() {
+        Ok(())
+    } else {
+        Err(Unprinted::NoData)
+    }
 }
 
 /// Appends the words of IPSECKEY data (RFC 4025 3.1).

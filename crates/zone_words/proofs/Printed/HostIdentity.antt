@@ -46,7 +46,7 @@ same_numbers n m a b few few_too same =
 key_parts : (octets key other rest after : List ℕ) → octets ≡ counted_key key ++ rest → octets ≡ counted_key other ++ after → length key ≤ 65535 → length other ≤ 65535 → other ≡ key
 key_parts octets key other rest after whole parted few few_too =
     let same : to_be_bytes w16 (length other) ++ (other ++ after) ≡ to_be_bytes w16 (length key) ++ (key ++ rest) =
-        sym (append_assoc (to_be_bytes w16 (length other)) other after) ∙ sym parted ∙ whole ∙ append_assoc (to_be_bytes w16 (length key)) key rest in
+    sym (append_assoc (to_be_bytes w16 (length other)) other after) ∙ sym parted ∙ whole ∙ append_assoc (to_be_bytes w16 (length key)) key rest in
     let of = same_numbers (length other) (length key) (other ++ after) (key ++ rest) (omega arith) (omega arith) same in
     (append_same other key after rest of.0 of.1).0
 
@@ -92,6 +92,6 @@ key_cut_off octets mid len front few short part after text parted states =
     let key = states.key in
     let bound = states.short in
     let same : to_be_bytes w16 (length key) ++ (key ++ after) ≡ to_be_bytes w16 len ++ mid =
-        sym (append_assoc (to_be_bytes w16 (length key)) key after) ∙ sym (parted ∙ ap (λ o. o ++ after) states.written) ∙ front in
+    sym (append_assoc (to_be_bytes w16 (length key)) key after) ∙ sym (parted ∙ ap (λ o. o ++ after) states.written) ∙ front in
     let of = same_numbers (length key) len (key ++ after) mid (omega arith) few same in
     omega (arith, of.0, ap length of.1, length-append key after)

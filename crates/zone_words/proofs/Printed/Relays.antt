@@ -85,20 +85,23 @@ amtrelay_printed fields octets rest after old o1 o2 o3 o4 new octet e1 front e3 
     let fields_same : amtrelay_by (Some (octet / 128)) (Some (octet % 128)) ≡ amtrelay_fields items = ap₂ (λ d r. amtrelay_by d r) (sym first) (sym second) in
     let discovery : slice_index rest 0 / 128 ≡ octet / 128 = ap (λ o. slice_index o 0 / 128) is in
     let parts = front.part ∷ [] ∷ p.printed.parts in
-    let all : PrintParts (amtrelay_by (Some (octet / 128)) (Some (octet % 128))) items parts =
-        (placed (bare front.text) false ∷ [],
-            placed (bare (decimal (octet / 128))) false ∷ p.items,
-            refl,
-            record { alone = bare front.text ∷ []; printed = (front.text, front.printed, refl); are_apart = refl },
-            (placed (bare (decimal (octet / 128))) false ∷ [],
-                p.items,
-                refl,
-                record {
-                  alone = bare (decimal (octet / 128)) ∷ [];
-                  printed = (decimal (octet / 128), record { number = octet / 128; few = omega arith; printed = refl; value = refl }, refl);
-                  are_apart = refl;
-                },
-                each)) in
+    let all : PrintParts (amtrelay_by (Some (octet / 128)) (Some (octet % 128))) items parts = (
+      placed (bare front.text) false ∷ [],
+      placed (bare (decimal (octet / 128))) false ∷ p.items,
+      refl,
+      record { alone = bare front.text ∷ []; printed = (front.text, front.printed, refl); are_apart = refl },
+      (
+        placed (bare (decimal (octet / 128))) false ∷ [],
+        p.items,
+        refl,
+        record {
+          alone = bare (decimal (octet / 128)) ∷ [];
+          printed = (decimal (octet / 128), record { number = octet / 128; few = omega arith; printed = refl; value = refl }, refl);
+          are_apart = refl;
+        },
+        each,
+      ),
+    ) in
     record {
       items = items;
       printed = record {
@@ -189,3 +192,8 @@ pub amtrelay_empty : (octets : List ℕ) → NoFront StatesU8 octets → HasNoWo
 amtrelay_empty octets none origin items states =
     let p = parts_of octets origin items states.parts states.each states.value in
     none p.precedence (joined p.parts) p.text p.whole p.stated
+
+-- a text states the bit of any octets
+pub amtrelay_always : (octets rest : List ℕ) → NoFront StatesDiscovery rest → HasNoWords of_amtrelay octets
+amtrelay_always octets rest none origin items states =
+    none [] rest (decimal 0) refl (record { number = 0; stated = decimal-is 0 (omega arith); few = omega arith; value = refl })
