@@ -22,6 +22,7 @@ mod JoinedItems
 mod LengthsBefore
 mod PassedFaults
 pub mod Printed
+pub mod PrintedStanding
 mod Numbers
 mod TypeWords
 mod MnemonicOf
@@ -61,3 +62,7 @@ pub mod Registered
 mod HeadLines
 mod InWords
 mod GenericLines
+pub mod PrintedRows
+pub mod PrintedStates
+pub mod PrintedCount
+pub mod PrintedWords

@@ -23,3 +23,9 @@ pub mod Hashes
 pub mod ReadAgain
 pub mod ReadNames
 pub mod ReadValues
+pub mod Prefixes
+pub mod Graphic
+pub mod GraphicTexts
+pub mod GraphicItems
+pub mod GraphicPrefixes
+pub mod GraphicParameters
