@@ -1,14 +1,12 @@
 -- The types of gateways and relays, and the rest that stands with them, as they are printed.
 use Rattle.std.specs.Prelude.{decimal}
 use Rattle.zone_rdata.proofs.Items.GenericLaws.{decimal-is}
-use Rattle.zone_rdata.proofs.Texts.Standing.{bare_decimal}
-use Rattle.zone_name.proofs.Texts.Bare.{StandsBare}
 use Rattle.zone_words.proofs.Common.{Bool, IsDecimal, List, [], ap, arith, codes, length, refl, slice_index, subst, sym, ℕ, ◌+◌, ◌++◌, ◌-◌, ◌/◌, ◌<◌, ◌^◌, ◌∷◌, ◌≡◌, ◌≤◌}
-use Rattle.zone_words.proofs.Printed.Fronts.{HaveCount, front_printed, front_short}
+use Rattle.zone_words.proofs.Printed.Fronts.{HaveCount, front_printed}
 use Rattle.zone_words.specs.Kinds.Gateway.{PrintsAddressType, PrintsDiscovery, PrintsUpTo, StatesAddressType, StatesDiscovery, StatesNoAddress, StatesUpTo, discovery_bit}
-use Rattle.zone_words.specs.Printed.{NoFront, PrintsFront}
+use Rattle.zone_words.specs.Printed.{PrintsFront}
 
--- ---- what is printed states the octets and stands outside quotes
+-- ---- what is printed states the octets
 
 up_to_states : (most : ℕ) (octets_of : ℕ → List ℕ) (text octets : List ℕ) → most < 2 ^ 64 → PrintsUpTo most octets_of text octets → StatesUpTo most octets_of text octets
 up_to_states most octets_of text octets small p =
@@ -20,22 +18,11 @@ up_to_states most octets_of text octets small p =
       value = p.value;
     }
 
-up_to_stands : (most : ℕ) (octets_of : ℕ → List ℕ) (text octets : List ℕ) → most < 2 ^ 64 → PrintsUpTo most octets_of text octets → StandsBare text
-up_to_stands most octets_of text octets small p =
-    let few = p.few in
-    subst StandsBare (sym p.printed) (bare_decimal p.number (omega arith))
-
 pub gateway_states : (optional : Bool) (text octets : List ℕ) → PrintsAddressType optional text octets → StatesAddressType optional text octets
 gateway_states optional text octets p = up_to_states 3 (λ n. (discovery_bit optional + n) ∷ []) text octets (omega arith) p
 
-pub gateway_stands : (optional : Bool) (text octets : List ℕ) → PrintsAddressType optional text octets → StandsBare text
-gateway_stands optional text octets p = up_to_stands 3 (λ n. (discovery_bit optional + n) ∷ []) text octets (omega arith) p
-
 pub discovery_states : (text octets : List ℕ) → PrintsDiscovery text octets → StatesDiscovery text octets
 discovery_states text octets p = up_to_states 1 (λ n. []) text octets (omega arith) p
-
-pub discovery_stands : (text octets : List ℕ) → PrintsDiscovery text octets → StandsBare text
-discovery_stands text octets p = up_to_stands 1 (λ n. []) text octets (omega arith) p
 
 -- ---- parts at the front
 
@@ -47,9 +34,6 @@ type_front optional octet bit octets rest old new whole bit_is least most append
     let of : octet ≡ discovery_bit optional + (octet - bit) = omega (arith, bit_is) in
     front_printed (PrintsAddressType optional) (StatesAddressType optional) 1 octets rest old new (octet ∷ []) (decimal (octet - bit)) (type_long optional) whole refl
     (record { number = octet - bit; few = most; printed = refl; value = ap (λ n. n ∷ []) of }) appended
-
-pub type_short : (optional : Bool) (octets : List ℕ) → length octets < 1 → NoFront (StatesAddressType optional) octets
-type_short optional octets short = front_short (StatesAddressType optional) 1 octets (type_long optional) short
 
 discovery_long : HaveCount StatesDiscovery 0
 discovery_long text part is = ap length is.value

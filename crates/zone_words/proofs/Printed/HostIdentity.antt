@@ -3,13 +3,10 @@ use Rattle.base64.specs.Engines.{standard}
 use Rattle.base64.specs.GeneralPurpose.{encode_of}
 use Rattle.zone_rdata.proofs.Octets.Sent.{append_same}
 use Rattle.zone_text.proofs.Common.{AllByRecursion-front}
-use Rattle.zone_name.proofs.InOctets.Pushing.{AllByRecursion-back}
-use Rattle.zone_words.proofs.Common.{AreOctets, IsHex, List, ap, append_assoc, arith, bytes_each, encode_lower, length, length-append, refl, slice_index, subst, sym, to_be_bytes, w16, with_length, ℕ, ◌%◌, ◌*◌, ◌+◌, ◌++◌, ◌/◌, ◌<◌, ◌∙◌, ◌∷◌, ◌≡◌, ◌≤◌}
-use Rattle.zone_words.proofs.Printed.Counted.{AfterLength, counted_bad, counted_front, counted_none, counted_octets, counted_small}
-use Rattle.zone_words.specs.Kinds.Base64.{IsBase64}
+use Rattle.zone_words.proofs.Common.{AreOctets, List, ap, append_assoc, arith, bytes_each, encode_lower, length, refl, slice_index, subst, sym, to_be_bytes, w16, with_length, ℕ, ◌%◌, ◌+◌, ◌++◌, ◌/◌, ◌<◌, ◌∙◌, ◌≡◌, ◌≤◌}
+use Rattle.zone_words.proofs.Printed.Counted.{AfterLength, counted_bad, counted_front, counted_octets, counted_small}
 use Rattle.zone_words.specs.Kinds.Hex.{IsLowerHex}
 use Rattle.zone_words.specs.Kinds.HostIdentity.{PrintsHostIdentityTag, PrintsPublicKey, StatesHostIdentityTag, StatesPublicKey}
-use Rattle.zone_words.specs.Machine.Taking.{NoneCounted}
 use Rattle.zone_words.specs.Printed.{NoFront, PrintsFront}
 
 -- ---- the tag
@@ -26,9 +23,6 @@ pub no_identity : (octets rest value : List ℕ) → octets ≡ with_length valu
 no_identity octets rest value whole empty =
     counted_bad StatesHostIdentityTag octets rest value identity_after whole
     (λ text states. let some = states.stands.some in omega (arith, some, empty, ap length states.written))
-
-pub none_counted : (octets : List ℕ) → NoneCounted octets → NoFront StatesHostIdentityTag octets
-none_counted octets none = counted_none StatesHostIdentityTag octets identity_after none
 
 -- ---- the key
 
@@ -81,17 +75,3 @@ no_key_front octets mid key rest len front cut long empty part after text parted
     let same = key_parts octets key states.key rest after whole (parted ∙ ap (λ o. o ++ after) states.written) (omega arith) states.short in
     let some = states.stands.some in
     omega (arith, some, empty, ap length same)
-
--- the octets end before the length or the key does
-pub key_short : (octets : List ℕ) → length octets < 2 → NoFront StatesPublicKey octets
-key_short octets short part after text parted states =
-    omega (arith, ap length parted, length-append part after, ap length states.written)
-
-pub key_cut_off : (octets mid : List ℕ) (len : ℕ) → octets ≡ to_be_bytes w16 len ++ mid → len < 65536 → length mid < len → NoFront StatesPublicKey octets
-key_cut_off octets mid len front few short part after text parted states =
-    let key = states.key in
-    let bound = states.short in
-    let same : to_be_bytes w16 (length key) ++ (key ++ after) ≡ to_be_bytes w16 len ++ mid =
-    sym (append_assoc (to_be_bytes w16 (length key)) key after) ∙ sym (parted ∙ ap (λ o. o ++ after) states.written) ∙ front in
-    let of = same_numbers (length key) len (key ++ after) mid (omega arith) few same in
-    omega (arith, of.0, ap length of.1, length-append key after)

@@ -1,12 +1,12 @@
 -- The data of a host's identity, whose lengths are put back within it and then printed.
 use Rattle.zone_rdata.proofs.Octets.Sent.{append_same}
 use Rattle.zone_rdata.specs.Limits.{longest_data}
-use Rattle.zone_words.proofs.Common.{List, NamedField, [], ap, append_assoc, arith, length, refl, subst, sym, TouchingItem, StateParts, ℕ, ◌++◌, ◌<◌, ◌∙◌, ◌∷◌, ◌≡◌, ◌≤◌}
+use Rattle.zone_words.proofs.Common.{List, NamedField, [], ap, append_assoc, arith, length, refl, subst, sym, TouchingItem, StateParts, ℕ, ◌++◌, ◌∙◌, ◌∷◌, ◌≡◌, ◌≤◌}
 use Rattle.zone_words.proofs.HostIdentities.{HipParts, hip_parts, in_octets, in_words, key_after}
 use Rattle.zone_words.proofs.Printed.Numbers.{u8_printed_states}
 use Rattle.zone_words.proofs.Printed.OwnFields.{one_printed, u8_octet}
 use Rattle.zone_words.specs.Data.{joined, left_over, lengths_first}
-use Rattle.zone_words.specs.Machine.HostIdentity.{HasLengthsFirst, HasNoLengthsFirst, PutsLengthsWithin}
+use Rattle.zone_words.specs.Machine.HostIdentity.{HasNoLengthsFirst, PutsLengthsWithin}
 use Rattle.zone_words.specs.Machine.PrintedFields.{OnlyLastPrintsAll}
 use Rattle.zone_words.specs.Parameters.Printed.{PrintsTouching}
 use Rattle.zone_words.specs.PrintedData.{HasNoWords, NoItemsOf, PrintParts, PrintsData, PrintsFields}

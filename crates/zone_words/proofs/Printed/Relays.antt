@@ -3,19 +3,19 @@ use Rattle.std.specs.Prelude.{decimal, suc, zero}
 use Rattle.zone_rdata.proofs.Items.GenericLaws.{decimal-is}
 use Rattle.zone_rdata.proofs.Octets.Sent.{append_same}
 use Rattle.zone_rdata.specs.Limits.{longest_data}
-use Rattle.zone_rdata.specs.Spelling.{bare, quoted}
-use Rattle.zone_words.proofs.Common.{Bool, Labels, List, NamedField, Option, Some, StateParts, TouchingItem, [], address_kind, ap, append_assoc, ap₂, arith, codes, drop, false, get_or, is_one, items_after, length, map, number_at, own_items, refl, slice_index, subst, sym, take, true, ℕ, ◌%◌, ◌+◌, ◌++◌, ◌/◌, ◌<◌, ◌==◌, ◌∙◌, ◌∷◌, ◌≡◌, ◌≤◌}
+use Rattle.zone_rdata.specs.Spelling.{bare}
+use Rattle.zone_words.proofs.Common.{Bool, Labels, List, NamedField, Option, Some, StateParts, TouchingItem, [], address_kind, ap, append_assoc, ap₂, arith, codes, drop, false, is_one, items_after, length, map, number_at, refl, slice_index, subst, sym, take, true, ℕ, ◌%◌, ◌+◌, ◌++◌, ◌/◌, ◌<◌, ◌==◌, ◌∙◌, ◌∷◌, ◌≡◌, ◌≤◌}
 use Rattle.zone_words.proofs.Gateways.{of_digits}
 use Rattle.zone_words.proofs.Printed.Gateways.{gateway_states}
-use Rattle.zone_words.proofs.Printed.OwnFields.{OnePrinted, OneStated, one_printed, one_stated}
+use Rattle.zone_words.proofs.Printed.OwnFields.{one_printed, one_stated}
 use Rattle.zone_words.specs.Data.{joined, left_over}
-use Rattle.zone_words.specs.Kinds.Gateway.{PrintsAddressType, StatesDiscovery, discovery_bit}
+use Rattle.zone_words.specs.Kinds.Gateway.{StatesDiscovery, discovery_bit}
 use Rattle.zone_words.specs.Kinds.Number.{PrintsU8, StatesU8, stated_number}
 use Rattle.zone_words.specs.Machine.PrintedFields.{OnlyLastPrintsAll}
 use Rattle.zone_words.specs.Parameters.Printed.{PrintsTouching, written_touching}
 use Rattle.zone_words.specs.Parameters.Text.{placed}
 use Rattle.zone_words.specs.Printed.{NoFront, PrintsFront}
-use Rattle.zone_words.specs.PrintedData.{HasNoWords, NoItemsOf, PrintParts, PrintsData, PrintsField, PrintsFields}
+use Rattle.zone_words.specs.PrintedData.{HasNoWords, NoItemsOf, PrintParts, PrintsData, PrintsFields}
 use Rattle.zone_words.specs.Table.{amtrelay_by, amtrelay_fields, field, field_of, of_amtrelay}
 use Rattle.zone_words.specs.declared.field.Field.{Field}
 use Rattle.zone_words.specs.declared.field.BareKind.TheVariants.{AddressType, Discovery, U8}
@@ -163,9 +163,6 @@ relay_parts origin items (p0 ∷ p1 ∷ p2 ∷ later) octets p value =
       each = p.1.1;
     }
 
-parts_of : (octets : List ℕ) (origin : Labels) (items : List TouchingItem) (parts : List (List ℕ)) → StateParts origin (amtrelay_fields items) items parts → octets ≡ joined parts → RelayParts origin items octets
-parts_of octets origin items parts each value = relay_parts origin items parts octets each value
-
 -- what is left after the precedence is of the later parts
 later_is : (origin : Labels) (items : List TouchingItem) (octets rest old new : List ℕ) (p : RelayParts origin items octets) → PrintsFront PrintsU8 StatesU8 octets rest old new → rest ≡ joined p.parts
 later_is origin items octets rest old new p front =
@@ -174,7 +171,7 @@ later_is origin items octets rest old new p front =
 
 pub amtrelay_none : (fields : List NamedField) (octets rest after old new : List ℕ) (octet : ℕ) → PrintsFront PrintsU8 StatesU8 octets rest old new → rest ≡ octet ∷ after → fields ≡ relay_fields (Some (octet / 128)) (Some (octet % 128)) → (OnlyLastPrintsAll fields → NoItemsOf fields rest) → HasNoWords of_amtrelay octets
 amtrelay_none fields octets rest after old new octet front is fields_are none origin items states =
-    let p = parts_of octets origin items states.parts states.each states.value in
+    let p = relay_parts origin items states.parts octets states.each states.value in
     let left = later_is origin items octets rest old new p front in
     let value : octet ≡ discovery_bit (p.discovery == 1) + p.number = cc (sym is ∙ left ∙ p.octet) in
     let first : octet / 128 ≡ p.discovery = highest p.discovery octet p.number p.least p.few value in
@@ -185,12 +182,12 @@ amtrelay_none fields octets rest after old new octet front is fields_are none or
 
 pub amtrelay_short : (octets rest old new : List ℕ) → PrintsFront PrintsU8 StatesU8 octets rest old new → length rest < 1 → HasNoWords of_amtrelay octets
 amtrelay_short octets rest old new front short origin items states =
-    let p = parts_of octets origin items states.parts states.each states.value in
+    let p = relay_parts origin items states.parts octets states.each states.value in
     omega (arith, short, ap length (later_is origin items octets rest old new p front ∙ p.octet))
 
 pub amtrelay_empty : (octets : List ℕ) → NoFront StatesU8 octets → HasNoWords of_amtrelay octets
 amtrelay_empty octets none origin items states =
-    let p = parts_of octets origin items states.parts states.each states.value in
+    let p = relay_parts origin items states.parts octets states.each states.value in
     none p.precedence (joined p.parts) p.text p.whole p.stated
 
 -- a text states the bit of any octets
