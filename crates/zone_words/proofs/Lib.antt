@@ -45,6 +45,7 @@ mod HostIdentities
 pub mod FieldLaws
 mod EachItems
 pub mod DataLaws
+pub mod Decided
 pub mod FaultsOnce
 mod GivenItems
 pub mod Cuts
@@ -64,5 +65,10 @@ mod InWords
 mod GenericLines
 pub mod PrintedRows
 pub mod PrintedStates
+pub mod PrintedKinds
+pub mod PrintedFields
+pub mod PrintedEach
+pub mod PrintedInRow
 pub mod PrintedCount
 pub mod PrintedWords
+pub mod PrintedDataLaws

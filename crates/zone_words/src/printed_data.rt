@@ -4,7 +4,7 @@ ghost use Rattle.zone_rdata.specs.Limits.{longest_data};
 ghost use Rattle.zone_words.specs.Machine.HostIdentity.{HasNoLengthsFirst, PutsLengthsWithin};
 ghost use Rattle.zone_words.specs.Machine.PrintedFields.{OnlyLastPrintsAll};
 ghost use Rattle.zone_words.specs.Parameters.Printed.{PrintsTouching};
-ghost use Rattle.zone_words.specs.Printed.{IfNoData};
+ghost use Rattle.zone_words.specs.Printed.{ArePrinted, IfNoData};
 ghost use Rattle.zone_words.specs.PrintedData.{AreItsWords, AreOfAType, HasNoWords, NoItemsOf, PrintsData, PrintsFields};
 ghost use Rattle.zone_words.specs.Table.{field_of, of_amtrelay, of_code, of_hip, of_ipseckey};
 
@@ -18,7 +18,7 @@ use crate::unprinted::Unprinted;
 const MOST: usize = 65_535;
 
 /// Puts the words of data in place of what `words` held, each after a blank but for an item that
-/// touches the one before it.
+/// touches the one before it. A terminal shows each of their octets as it is.
 ///
 /// # Errors
 ///
@@ -27,6 +27,7 @@ const MOST: usize = 65_535;
 pub fn print_data(fields: Fields, octets: &[u8], words: &mut Vec<u8>) -> Result<(), Unprinted>
     ensures printed { OnOk result
         (AreItsWords (of_code fields) octets.now words.new.items) }
+    ensures shown { OnOk result (ArePrinted words.new.items) }
     ensures none { IfErr result
         (IfNoData (AreOfAType (of_code fields) → HasNoWords (of_code fields) octets.now)) }
 {
