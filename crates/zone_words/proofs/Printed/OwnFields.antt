@@ -1,7 +1,7 @@
 -- The types whose fields depend on octets or on items before them: which fields they are.
 use Rattle.zone_rdata.specs.Limits.{longest_data}
 use Rattle.zone_rdata.specs.Spelling.{RawItem, bare, quoted}
-use Rattle.zone_words.proofs.Common.{IfErr, Labels, List, NamedField, Ok, Err, Option, Result, Some, StateParts, StatesBare, StatesField, TouchingItem, [], ap, ap₂, arith, drop, false, get_or, items_after, length, min, number_at, own_items, refl, subst, sym, take, text_meaning, ℕ, ◌%◌, ◌+◌, ◌++◌, ◌<◌, ◌∙◌, ◌∷◌, ◌≡◌, ◌≤◌}
+use Rattle.zone_words.proofs.Common.{Labels, List, NamedField, Option, Some, StateParts, StatesBare, StatesField, TouchingItem, [], ap, ap₂, arith, drop, false, get_or, items_after, length, min, number_at, own_items, refl, subst, sym, take, text_meaning, ℕ, ◌%◌, ◌+◌, ◌++◌, ◌<◌, ◌∙◌, ◌∷◌, ◌≡◌, ◌≤◌}
 use Rattle.zone_words.proofs.Gateways.{of_digits}
 use Rattle.zone_words.proofs.Printed.Gateways.{gateway_states}
 use Rattle.zone_words.proofs.Printed.Numbers.{u8_printed_states}
@@ -11,21 +11,11 @@ use Rattle.zone_words.specs.Kinds.Number.{StatesU8, stated_number}
 use Rattle.zone_words.specs.Machine.PrintedFields.{OnlyLastPrintsAll}
 use Rattle.zone_words.specs.Parameters.Printed.{PrintsTouching}
 use Rattle.zone_words.specs.Parameters.Text.{placed}
-use Rattle.zone_words.specs.Printed.{IfNoData}
 use Rattle.zone_words.specs.PrintedData.{HasNoWords, NoItemsOf, PrintParts, PrintsBare, PrintsData, PrintsField, PrintsFields, apart}
 use Rattle.zone_words.specs.Table.{ipseckey_by, ipseckey_fields, of_ipseckey}
 use Rattle.zone_words.specs.declared.field.BareKind.{BareKind}
 use Rattle.zone_words.specs.declared.field.BareKind.TheVariants.{AddressType, U8}
 use Rattle.zone_words.specs.declared.field.FieldKind.TheVariants.{Bare}
-use Rattle.zone_words.specs.declared.unprinted.Unprinted.{Unprinted}
-use Rattle.zone_words.specs.declared.unprinted.Unprinted.TheVariants as unprinted
-
--- ---- answers
-
-pub none_weaker : {T : Type 0} (r : Result T Unprinted) (A B : Type 0) → (A → B) → IfErr r (IfNoData A) → IfErr r (IfNoData B)
-none_weaker (Ok v) A B goes h = tt
-none_weaker (Err unprinted.NoData) A B goes h = goes h
-none_weaker (Err unprinted.OutOfMemory) A B goes h = tt
 
 -- ---- a bare field at the front
 

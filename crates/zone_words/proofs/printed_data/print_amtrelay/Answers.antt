@@ -1,7 +1,7 @@
 use Rattle.zone_words.proofs.Common.{on_ok_weaker, refl}
 use Rattle.zone_words.proofs.Printed.Fronts.{none_passed}
-use Rattle.zone_words.proofs.Printed.OwnFields.{none_weaker}
 use Rattle.zone_words.proofs.Printed.Relays.{amtrelay_always, amtrelay_empty, amtrelay_none, amtrelay_printed, amtrelay_short, last_two}
+use Rattle.zone_words.proofs.PrintedKinds.{none_weaker}
 use Rattle.zone_words.proofs.printed_data.print_amtrelay.Goals as goal
 
 pub returns-clause-printed : goal.returns-clause-printed

@@ -1,7 +1,7 @@
 use Rattle.zone_words.proofs.Common.{on_ok_weaker}
 use Rattle.zone_words.proofs.Printed.Fronts.{none_passed}
 use Rattle.zone_words.proofs.Printed.HostIdentityData.{hip_cut, hip_none, hip_printed}
-use Rattle.zone_words.proofs.Printed.OwnFields.{none_weaker}
+use Rattle.zone_words.proofs.PrintedKinds.{none_weaker}
 use Rattle.zone_words.proofs.printed_data.print_hip.Goals as goal
 
 pub returns-in_err-push_lengths_within-clause-none :

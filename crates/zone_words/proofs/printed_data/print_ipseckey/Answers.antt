@@ -1,5 +1,6 @@
 use Rattle.zone_words.proofs.Common.{on_ok_weaker}
-use Rattle.zone_words.proofs.Printed.OwnFields.{ipseckey_none, ipseckey_printed, ipseckey_short, none_weaker}
+use Rattle.zone_words.proofs.Printed.OwnFields.{ipseckey_none, ipseckey_printed, ipseckey_short}
+use Rattle.zone_words.proofs.PrintedKinds.{none_weaker}
 use Rattle.zone_words.proofs.printed_data.print_ipseckey.Goals as goal
 
 pub returns-clause-printed : goal.returns-clause-printed
