@@ -5,5 +5,8 @@ mod Canonical
 mod FirstLine
 mod Classed
 mod Read
-mod ShownLines
+mod Cuts
+mod DataEnds
+mod Heads
+mod Fitting
 mod Origins

@@ -2,6 +2,7 @@
 //! place of the generic form (RFC 3597 5), where these words, read again, are that form.
 #![tactic(auto)]
 
+mod canonical_head;
 mod class_stated;
 mod digits;
 mod generic_line;
