@@ -20,8 +20,8 @@ use Rattle.zone_words.proofs.Walks.{word_text}
 use Rattle.zone_words.proofs.WrittenWords.{ArePlain, IsPlain, hex_some, plain_decimal, plain_hex, some_decimal}
 use Rattle.zone_words.specs.Table.{FurtherType, IsFurtherWord, further_of, further_type, further_types}
 use Rattle.zone_words.specs.Written.{digit_tokens, generic_tokens, type_token, word}
-use Rattle.words_print.proofs.Cuts.{NoneOf, SameCut, none_behind, none_same, one_first, one_last}
-use Rattle.words_print.specs.Machine.Found.{HasNoFeedAtEnd, HasNoSpace, HasNone, IsCut, IsThatOf, IsWithoutFeed, digit_text, form_of}
+use Rattle.words_print.proofs.Cuts.{IsSpace, NoneOf, SameCut, none_behind, none_same, one_first, one_last}
+use Rattle.words_print.specs.Machine.Found.{FoundIn, HasNoData, HasNoFeedAtEnd, HasNoSpace, HasNone, IsAroundLast, IsCut, IsThatOf, IsWithoutFeed, digit_text, form_of}
 use Rattle.words_print.specs.Shown.{EndsWithClass, EndsWithData, IsAtAWord, IsLineEnd}
 use Rattle.words_print.specs.declared.generic_line.GenericLine.{GenericLine}
 
@@ -203,9 +203,6 @@ data_cut line front further octets end d =
 
 -- ---- the class word before it
 
-abbrev pub IsSpace : ℕ → Type 0
-IsSpace c = (c ≡ 32) ⊎ (c ≡ 9)
-
 space_folds : (c : ℕ) → IsSpace c → IsSpace (folded_octet c)
 space_folds c (inl e) = inl (ap folded_octet e)
 space_folds c (inr e) = inr (ap folded_octet e)
@@ -254,7 +251,7 @@ one_word ahead word front back (inr one) (inr two) p q same =
 abbrev is_short : FurtherType → Bool
 is_short f = nat_lt f.number 65536
 
-type_is_further : (further : FurtherType) → further_type further.number ≡ Some further → IsFurtherWord (type_text further.number) further
+pub type_is_further : (further : FurtherType) → further_type further.number ≡ Some further → IsFurtherWord (type_text further.number) further
 type_is_further further row =
     let short : nat_lt further.number 65536 ≡ true = found_each is_short (λ (f : FurtherType). further.number == f.number) further_types further refl row in
     let low : further.number < 2 ^ 64 = grind (arith, nat_tests) in
@@ -296,3 +293,99 @@ pub only_that : (line stem class word form end ahead digits : List ℕ) (found :
 only_that line stem class word form end ahead digits found cut parted at none named read front further octets behind d =
     let own = data_in line stem class word form end ahead front further octets behind cut parted at none d in
     (own.front_is, further_word_once word further found own.word_is named, own.end_is, read octets own.form_is)
+
+pub form_digits : (octets others : List ℕ) → form_of octets ≡ form_of others → encode_lower octets ≡ encode_lower others
+form_digits octets [] same = sym (no_digits_behind octets (decimal 0) (let e : decimal (length octets) ++ digit_text octets ≡ decimal 0 ++ [] = cc same in sym (e ∙ append-nil (decimal 0))) (no_blank_number []))
+form_digits octets (o ∷ others) same =
+    sym (digits_behind octets (decimal (length (o ∷ others)) ++ digit_text (o ∷ others)) (decimal (length (o ∷ others))) (encode_lower (o ∷ others)) (let e : decimal (length octets) ++ digit_text octets ≡ decimal (length (o ∷ others)) ++ digit_text (o ∷ others) = cc same in sym e) refl (no_blank_number (o ∷ others)))
+
+-- ---- how a line is cut
+
+last_same : (a b : List ℕ) (c d : ℕ) → a ++ c ∷ [] ≡ b ++ d ∷ [] → c ≡ d
+last_same [] [] c d same = cc same
+last_same [] (y ∷ b) c d same = absurd (not_nil b d [] (cc same))
+last_same (x ∷ a) [] c d same = absurd (not_nil a c [] (let e : a ++ c ∷ [] ≡ [] = cc same in sym e))
+last_same (x ∷ a) (y ∷ b) c d same = last_same a b c d (cc same)
+
+pub without_feed : (line octets : List ℕ) (last : ℕ) → line ≡ octets ++ last ∷ [] → last ≡ 10 → IsWithoutFeed line octets (10 ∷ [])
+without_feed line octets last whole feed = record {
+  whole = whole ∙ ap (λ c. octets ++ c ∷ []) feed;
+  ends = inr refl;
+  last = λ none. absurd cc;
+}
+
+pub with_none : (line octets : List ℕ) (last : ℕ) → line ≡ octets ++ last ∷ [] → (last ≡ 10 → ⊥) → IsWithoutFeed line line []
+with_none line octets last whole other = record {
+  whole = sym (append-nil line);
+  ends = inl refl;
+  last = λ _ front is. other (last_same octets front last 10 (sym whole ∙ is));
+}
+
+pub with_nothing : (line : List ℕ) → length line ≡ 0 → IsWithoutFeed line line []
+with_nothing [] none = record { whole = refl; ends = inl refl; last = λ _ front is. not_nil front 10 [] is }
+with_nothing (c ∷ line) none = absurd (omega (arith, none))
+
+pub cut_is : (line octets end before form worded back stem word : List ℕ) → IsWithoutFeed line octets end → IsAroundLast 92 octets before form → IsAroundLast 32 before worded back → back ≡ [] → IsAroundLast 32 worded stem word → IsCut line stem word form end
+cut_is line octets end before form worded back stem word ended one two none three = record {
+  octets = octets;
+  ended = ended;
+  parted = one.whole ∙ ap (λ t. t ++ 92 ∷ form) (two.whole ∙ ap (λ t. worded ++ 32 ∷ t) none ∙ ap (λ t. t ++ 32 ∷ []) three.whole);
+  no_backslash = one.none;
+  no_blank = three.none;
+}
+
+module _ (line octets end before form : List ℕ) (ended : IsWithoutFeed line octets end) (one : IsAroundLast 92 octets before form) (stem word form' end' : List ℕ) (cut : IsCut line stem word form' end') where
+  pub no_worded : HasNone 32 before → ⊥
+  no_worded none =
+      let same = same_before line stem word form' end' octets end before form cut ended one.whole one.none in
+      none_same (λ d. d ≡ 32) before (stem ++ 32 ∷ word) 32 [] refl none (sym same.front)
+
+  pub nothing_back : (worded back : List ℕ) → IsAroundLast 32 before worded back → (back ≡ [] → ⊥) → ⊥
+  nothing_back worded back two some =
+      let same = same_before line stem word form' end' octets end before form cut ended one.whole one.none in
+      some (sym (same_worded (stem ++ 32 ∷ word) before worded back same.front two.whole two.none).back)
+
+  pub no_stem : (worded back : List ℕ) → IsAroundLast 32 before worded back → HasNone 32 worded → ⊥
+  no_stem worded back two none =
+      let same = same_before line stem word form' end' octets end before form cut ended one.whole one.none in
+      let again = same_worded (stem ++ 32 ∷ word) before worded back same.front two.whole two.none in
+      none_same (λ d. d ≡ 32) worded stem 32 word refl none (sym again.front)
+
+-- ---- what is found
+
+pub no_cut_no_data : (line : List ℕ) → ((stem word form end : List ℕ) → IsCut line stem word form end → ⊥) → HasNoData line
+no_cut_no_data line none front further octets end d =
+    let own = data_cut line front further octets end d in
+    none own.stem (type_text further.number) (form_of octets) end own.cut
+
+module _ (line stem class word form end ahead : List ℕ) (cut : IsCut line stem word form end) (parted : stem ≡ ahead ++ class) (at : IsAtAWord ahead) (none : HasNoSpace class) where
+  pub no_class : ((n : ℕ) → IsClassWord class n → IsClass n → ⊥) → HasNoData line
+  no_class other front further octets behind d =
+      let own = data_in line stem class word form end ahead front further octets behind cut parted at none d in
+      other own.number own.named own.is
+
+  pub no_type : ((further : FurtherType) → IsFurtherWord word further → ⊥) → HasNoData line
+  no_type other front further octets behind d =
+      let own = data_in line stem class word form end ahead front further octets behind cut parted at none d in
+      other further own.word_is
+
+  pub no_such_class : (number : ℕ) (found : FurtherType) → IsClassWord class number → IsFurtherWord word found → found.in_internet_alone ≡ true → (number ≡ 1 → ⊥) → HasNoData line
+  no_such_class number found named is alone other front further octets behind d =
+      let own = data_in line stem class word form end ahead front further octets behind cut parted at none d in
+      let same : further ≡ found = further_word_once word further found own.word_is is in
+      other (class_word_once class number own.number named own.named ∙ own.has_type (ap (λ (f : FurtherType). f.in_internet_alone) same ∙ alone))
+
+pub found_in : (line word form : List ℕ) (g : GenericLine) (class : ℕ) → IsCut line g.stem.now word form g.end.now → g.stem.now ≡ g.ahead.now ++ g.class.now → IsAtAWord g.ahead.now → HasNoSpace g.class.now → IsClassWord g.class.now class → IsClass class → IsFurtherWord word (further_of g.further.now) → ((further_of g.further.now).in_internet_alone ≡ true → class ≡ in_class) → ((octets : List ℕ) → form ≡ form_of octets → g.digits.now ≡ encode_lower octets) → FoundIn line g
+found_in line word form g class cut parted at none named is word_is has_type read = record {
+  class = class;
+  parted = parted;
+  at_a_word = at;
+  named = named;
+  is = is;
+  row = word_is.row;
+  has_type = has_type;
+  ends = cut.ended.ends;
+  only = λ front further octets behind d.
+      let that = only_that line g.stem.now g.class.now word form g.end.now g.ahead.now g.digits.now (further_of g.further.now) cut parted at none word_is read front further octets behind d in
+      record { front_is = that.0; further_is = that.1; end_is = that.2; digits_are = that.3 };
+}

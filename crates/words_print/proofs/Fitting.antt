@@ -114,7 +114,7 @@ is_head line g found is = record {
   is_class = found.is;
 }
 
-in_words_there : (head line shown : List ℕ) (class : ℕ) (further : FurtherType) (items : List TouchingItem) (octets : List ℕ) → EntryLaw → RewrittenLaw → IsHead head class → further_type further.number ≡ Some further → (further.in_internet_alone ≡ true → class ≡ in_class) → AreWords further.fields items octets → generic_line head further octets ≡ line → words_line head further items ≡ shown → IsRecordInWords line shown
+pub in_words_there : (head line shown : List ℕ) (class : ℕ) (further : FurtherType) (items : List TouchingItem) (octets : List ℕ) → EntryLaw → RewrittenLaw → IsHead head class → further_type further.number ≡ Some further → (further.in_internet_alone ≡ true → class ≡ in_class) → AreWords further.fields items octets → generic_line head further octets ≡ line → words_line head further items ≡ shown → IsRecordInWords line shown
 in_words_there head line shown class further items octets entry rewritten is row has_type words line_is shown_is =
     let one = entry head class further items octets is row words in
     subst (λ l. IsRecordInWords l shown) line_is (subst (IsRecordInWords (generic_line head further octets)) shown_is (record {

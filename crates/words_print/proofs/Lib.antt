@@ -9,4 +9,5 @@ mod Cuts
 mod DataEnds
 mod Heads
 mod Fitting
+mod CanonicalLines
 mod Origins

@@ -68,9 +68,13 @@ pub(crate) fn around_first(octet: u8, octets: &[u8]) -> Option<(&[u8], &[u8])>
 fn split_end(line: &[u8]) -> (&[u8], &[u8])
     ensures { IsWithoutFeed line.now result.0.now result.1.now }
 {
-    match line.split_last() {
-        Some((b'\n', octets)) => (octets, b"\n"),
-        _ => (line, b""),
+    let Some((last, octets)) = line.split_last() else {
+        return (line, b"");
+    };
+    if *last == b'\n' {
+        (octets, b"\n")
+    } else {
+        (line, b"")
     }
 }
 
