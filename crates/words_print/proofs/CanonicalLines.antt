@@ -1,5 +1,5 @@
 -- A line of a canonical text is shown in the words of its data, where it has any.
-use Rattle.std.proofs.Common.{◌≡◌, ◌≢◌, ℕ, ◌+◌, ◌≤◌, ◌⊎◌, inl, inr, List, [], ◌∷◌, ◌++◌, length, Ok, true, refl, ap, arith, lit<, sym, subst, ◌∙◌, append_assoc}
+use Rattle.std.proofs.Common.{◌≡◌, ℕ, ◌+◌, ◌≤◌, inl, inr, List, [], ◌∷◌, ◌++◌, length, Ok, true, refl, ap, arith, lit<, sym, subst, ◌∙◌, append_assoc}
 use Rattle.std.specs.List.{flat_map}
 use Rattle.std.specs.Prelude.{Some, codes, decimal}
 use Rattle.hex.proofs.HexLemmas.{decode_of-encode_lower}
@@ -15,13 +15,13 @@ use Rattle.zone_text.specs.FirstEntry.{IsOneEntry}
 use Rattle.zone_text.specs.Tokens.{Token, text}
 use Rattle.zone_words.proofs.FurtherWords.{further_word_once}
 use Rattle.zone_words.specs.DataItem.{TouchingItem}
-use Rattle.zone_words.specs.Entry.{most_items}
-use Rattle.zone_words.specs.PrintedData.{AreOfAType, HasNoWords, PrintsData}
+use Rattle.zone_words.specs.Parameters.Printed.{written_touching}
+use Rattle.zone_words.specs.PrintedData.{HasNoWords, PrintsData}
 use Rattle.zone_words.specs.Table.{FurtherType, IsFurtherWord, further_type}
-use Rattle.zone_words.specs.WordsLine.{AreWords, IsHead, generic_line, words_line}
+use Rattle.zone_words.specs.WordsLine.{IsHead, generic_line, words_line}
 use Rattle.zone_words.specs.Written.{generic_tokens}
 use Rattle.words_print.proofs.DataEnds.{cut_once, data_cut, form_digits, type_is_further, type_text}
-use Rattle.words_print.proofs.Fitting.{EntryLaw, RewrittenLaw, WordsLaw, in_words_there}
+use Rattle.words_print.proofs.Fitting.{EntryLaw, RewrittenLaw, WordsLaw, in_words_there, words_joined}
 use Rattle.words_print.specs.Machine.Found.{form_of}
 use Rattle.words_print.specs.Shown.{EndsWithData, HasTooManyItems, IsRecordInWords, IsShownLine, gets_words, no_data, no_words, of_another, too_many_items, with_words}
 
@@ -58,7 +58,7 @@ head_data head class further octets h row has_type each = record {
   before = record {
     ahead = (h.owner ++ 32 ∷ h.ttl) ++ 32 ∷ [];
     word = h.word;
-    whole = h.whole ∙ sym (append_assoc h.owner (32 ∷ h.ttl) (32 ∷ (h.word ++ 32 ∷ []))) ∙ sym (append_assoc (h.owner ++ 32 ∷ h.ttl) (32 ∷ []) (h.word ++ 32 ∷ []));
+    whole = h.whole ∙ sym (append_assoc h.owner (32 ∷ h.ttl) (32 ∷ (h.word ++ 32 ∷ []))) ∙ sym (append_assoc (h.owner ++ 32 ∷ h.ttl) (32 ∷ []) (h.word ++ 32 ∷ [])) ∙ sym (append_assoc ((h.owner ++ 32 ∷ h.ttl) ++ 32 ∷ []) h.word (32 ∷ []));
     parted = inr (h.owner ++ 32 ∷ h.ttl, 32, inl refl, refl);
     named = h.is_word;
     is = h.is_class;
@@ -66,7 +66,7 @@ head_data head class further octets h row has_type each = record {
   row = row;
   has_type = has_type;
   each = each;
-  whole = refl;
+  whole = sym (append_assoc head (text (generic_tokens further.number octets)) (10 ∷ []));
   ends = inr refl;
 }
 
@@ -84,13 +84,10 @@ head_few : (head : List ℕ) (class : ℕ) (further : FurtherType) (octets : Lis
 head_few head class further octets law h many =
     let one = law head class further octets h in
     let same : many.tokens ≡ one.0 = one_cut (generic_line head further octets) many.tokens one.0 many.one.cut one.1.cut in
-    let counted : length (flat_map item_of many.tokens) ≡ 4 + length (generic_items octets) = ap (λ t. length (flat_map item_of t)) same ∙ ap length one.2 ∙ by_four (generic_items octets) in
+    let counted : length (flat_map item_of many.tokens) ≡ 4 + length (generic_items octets) = (let all = ap (λ t. length (flat_map item_of t)) same ∙ ap length one.2 in omega (arith, all)) in
     let least = many.many in
     let few = few_generic octets in
     omega (arith, counted, least, few)
-  where
-    by_four : {A : Type 0} {a b c d : A} (l : List A) → length (a ∷ b ∷ c ∷ d ∷ l) ≡ 4 + length l
-    by_four l = omega arith
 
 -- the words that are shown
 pub record IsShownInWords (head : List ℕ) (further : FurtherType) (octets shown : List ℕ) : Type 0 where
@@ -113,6 +110,7 @@ head_shown head class further octets shown entry rewritten words generic h row h
     line_as : (front : List ℕ) (f : FurtherType) (o end : List ℕ) (items : List TouchingItem) → SameData front f o end head further octets (10 ∷ []) → with_words front f items end ≡ words_line head further items
     line_as front f o end items same =
         ap (λ t. with_words t f items end) same.front_is ∙ ap (λ t. with_words head t items end) same.further_is ∙ ap (with_words head further items) same.end_is
+        ∙ words_joined head further.mnemonic (written_touching items) (10 ∷ [])
 
     no_other : (front : List ℕ) (f : FurtherType) (o end : List ℕ) (items : List TouchingItem) → SameData front f o end head further octets (10 ∷ []) → PrintsData f.fields items o → (IsRecordInWords (generic_line head further octets) (with_words front f items end) → ⊥) → ⊥
     no_other front f o end items same p other =

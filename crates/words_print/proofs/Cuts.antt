@@ -2,7 +2,6 @@
 use Rattle.std.proofs.Common.{◌≡◌, ℕ, zero, suc, ◌+◌, ◌<◌, ◌==◌, ◌⊎◌, inl, inr, Bool, true, List, [], ◌∷◌, ◌++◌, length, take, drop, eq-eqb, refl, ap, arith, subst, sym, ◌∙◌}
 use Rattle.std.proofs.lemmas.Bool.{eqb-true, or_cases}
 use Rattle.std.specs.List.{AllByRecursion}
-use Rattle.std.specs.Prelude.{slice_index}
 use Rattle.memchr.specs.Find.{Nowhere, Passes, is_byte, is_byte2}
 use Rattle.words_print.specs.Machine.Found.{HasNoSpace, HasNone, IsAroundFirst, IsAroundLast}
 use Rattle.words_print.specs.Shown.{IsAtAWord}

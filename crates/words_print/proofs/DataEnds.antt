@@ -1,28 +1,28 @@
 -- A line ends with data of a further type in one way.
-use Rattle.std.proofs.Common.{◌≡◌, ◌≢◌, ℕ, ◌<◌, ◌==◌, ◌||◌, ◌⊎◌, inl, inr, Bool, true, false, not, List, [], ◌∷◌, ◌++◌, length, map, refl, ap, arith, sym, subst, ◌∙◌, append_assoc, append-nil}
+use Rattle.std.proofs.Common.{◌≡◌, ◌≢◌, ℕ, ◌<◌, ◌==◌, ◌||◌, inl, inr, Bool, true, false, not, List, [], ◌∷◌, ◌++◌, length, refl, ap, arith, sym, subst, ◌∙◌, append_assoc, append-nil}
 use Rattle.hex.specs.Hex.{encode_lower}
+unfoldable use Rattle.hex.specs.Hex.{encode_with}
 use Rattle.std.proofs.lemmas.Bool.{false≢true}
 use Rattle.std.proofs.lemmas.Bool.Decides.{nat_tests}
-use Rattle.std.proofs.lemmas.List.{append_cancel_left}
 use Rattle.std.specs.List.{AllByRecursion, list_all}
-use Rattle.std.specs.Prelude.{◌^◌, Some, codes, decimal, nat_lt}
+use Rattle.std.specs.Prelude.{◌^◌, IfNone, None, Option, Some, codes, decimal, nat_lt}
 use Rattle.zone_name.proofs.InOctets.Pushing.{AllByRecursion-append}
 use Rattle.zone_name.specs.Name.{folded_label, folded_octet}
-use Rattle.zone_name.specs.Spelling.{escaped, is_digit}
+use Rattle.zone_name.specs.Spelling.{is_digit}
 use Rattle.zone_rdata.proofs.Items.GenericLaws.{decimal-is}
 use Rattle.zone_rdata.proofs.Words.OneWord.{class_word_once}
 use Rattle.zone_rdata.proofs.Words.Tables.{each_mnemonic, found_each}
 use Rattle.zone_rdata.specs.Table.{classes, in_class}
 use Rattle.zone_rdata.specs.Words.{IsClass, IsClassWord, by_mnemonic, by_number}
-use Rattle.zone_text.specs.Tokens.{bare, blank, ends_item, text, token_text}
+use Rattle.zone_text.specs.Tokens.{ends_item, text, token_text}
 use Rattle.zone_words.proofs.FurtherWords.{further_word_once}
 use Rattle.zone_words.proofs.Walks.{word_text}
-use Rattle.zone_words.proofs.WrittenWords.{ArePlain, IsPlain, hex_some, plain_decimal, plain_hex, some_decimal}
+use Rattle.zone_words.proofs.WrittenWords.{ArePlain, IsPlain, plain_decimal, plain_hex}
 use Rattle.zone_words.specs.Table.{FurtherType, IsFurtherWord, further_of, further_type, further_types}
-use Rattle.zone_words.specs.Written.{digit_tokens, generic_tokens, type_token, word}
-use Rattle.words_print.proofs.Cuts.{IsSpace, NoneOf, SameCut, none_behind, none_same, one_first, one_last}
-use Rattle.words_print.specs.Machine.Found.{FoundIn, HasNoData, HasNoFeedAtEnd, HasNoSpace, HasNone, IsAroundLast, IsCut, IsThatOf, IsWithoutFeed, digit_text, form_of}
-use Rattle.words_print.specs.Shown.{EndsWithClass, EndsWithData, IsAtAWord, IsLineEnd}
+use Rattle.zone_words.specs.Written.{digit_tokens, generic_tokens, word}
+use Rattle.words_print.proofs.Cuts.{IsSpace, NoneOf, SameCut, none_same, one_first, one_last}
+use Rattle.words_print.specs.Machine.Found.{FoundIn, HasNoData, HasNoFeedAtEnd, HasNoSpace, HasNone, IsAroundLast, IsCut, IsWithoutFeed, digit_text, form_of}
+use Rattle.words_print.specs.Shown.{EndsWithData, IsAtAWord, IsLineEnd}
 use Rattle.words_print.specs.declared.generic_line.GenericLine.{GenericLine}
 
 -- ---- the text of a type and octets in the generic form
@@ -57,10 +57,15 @@ type_no_blank number = plain_none 32 refl (type_text number) (plain_type number)
 
 -- an octet that neither a blank is nor one of a word
 form_none : (c : ℕ) → (32 ≡ c → ⊥) → (35 ≡ c → ⊥) → ((octets : List ℕ) → ArePlain octets → HasNone c octets) → (octets : List ℕ) → HasNone c (form_of octets)
-form_none c blank mark none [] = (mark, (blank, AllByRecursion-append (λ d. d ≢ c) (decimal 0) [] (none (decimal 0) (plain_decimal 0)) tt))
-form_none c blank mark none (o ∷ octets) =
-    (mark, (blank, AllByRecursion-append (λ d. d ≢ c) (decimal (length (o ∷ octets))) (digit_text (o ∷ octets)) (none (decimal (length (o ∷ octets))) (plain_decimal (length (o ∷ octets))))
-    (blank, none (encode_lower (o ∷ octets)) (plain_hex (o ∷ octets)))))
+form_none c space mark none [] = (mark, (space, AllByRecursion-append (λ d. d ≢ c) (decimal 0) [] (none (decimal 0) (plain_decimal 0)) tt))
+form_none c space mark none (o ∷ octets) = (
+  mark,
+  (
+    space,
+    AllByRecursion-append (λ d. d ≢ c) (decimal (length (o ∷ octets))) (digit_text (o ∷ octets)) (none (decimal (length (o ∷ octets))) (plain_decimal (length (o ∷ octets))))
+        (space, none (encode_lower (o ∷ octets)) (plain_hex (o ∷ octets))),
+  ),
+)
 
 form_no_backslash : (octets : List ℕ) → HasNone 92 (form_of octets)
 form_no_backslash = form_none 92 (λ e. absurd (omega (arith, e))) (λ e. absurd (omega (arith, e))) plain_backslash
@@ -86,8 +91,12 @@ digits_behind [] number front back is same none =
 digits_behind (o ∷ octets) number front back is same none =
     sym (one_first (λ d. d ≡ 32) (decimal (length (o ∷ octets))) front (encode_lower (o ∷ octets)) back 32 32 refl refl (no_blank_number (o ∷ octets)) none (sym is ∙ same)).back
 
+no_digits : encode_lower [] ≡ []
+unfolding encode_with
+no_digits = refl
+
 pub no_digits_behind : (octets number : List ℕ) → number ≡ decimal (length octets) ++ digit_text octets → HasNone 32 number → [] ≡ encode_lower octets
-no_digits_behind [] number is none = refl
+no_digits_behind [] number is none = sym no_digits
 no_digits_behind (o ∷ octets) number is none = absurd (none_same (λ d. d ≡ 32) number (decimal (length (o ∷ octets))) 32 (encode_lower (o ∷ octets)) refl none is)
 
 -- ---- the end of a line
@@ -169,7 +178,7 @@ pub record IsCutData (line front : List ℕ) (number : ℕ) (octets end : List �
   pub cut : IsCut line stem (type_text number) (form_of octets) end
 
 front_stem : (ahead word stem : List ℕ) → stem ≡ ahead ++ word → ahead ++ word ++ 32 ∷ [] ≡ stem ++ 32 ∷ []
-front_stem ahead word stem is = sym (append_assoc ahead word (32 ∷ [])) ∙ ap (λ t. t ++ 32 ∷ []) (sym is)
+front_stem ahead word stem is = ap (λ t. t ++ 32 ∷ []) (sym is)
 
 octets_parted : (stem word form : List ℕ) → (stem ++ 32 ∷ []) ++ (word ++ 32 ∷ 92 ∷ form) ≡ ((stem ++ 32 ∷ word) ++ 32 ∷ []) ++ 92 ∷ form
 octets_parted stem word form =
@@ -191,7 +200,7 @@ data_cut line front further octets end d =
       cut = record {
         octets = front ++ text (generic_tokens further.number octets);
         ended = record {
-          whole = d.whole ∙ sym (append_assoc front (text (generic_tokens further.number octets)) end);
+          whole = d.whole;
           ends = d.ends;
           last = λ none. feed_at_end (front ++ text (generic_tokens further.number octets)) (((stem ++ 32 ∷ type_text further.number) ++ 32 ∷ []) ++ 92 ∷ []) (form_of octets) (form_no_feed octets) (some_form further.number octets) (whole ∙ sym (append_assoc ((stem ++ 32 ∷ type_text further.number) ++ 32 ∷ []) (92 ∷ []) (form_of octets)));
         };
@@ -237,11 +246,11 @@ class_no_space word n (by_number is) =
 
 -- the last word
 pub one_word : (ahead word front back : List ℕ) → IsAtAWord ahead → IsAtAWord front → HasNoSpace word → HasNoSpace back → ahead ++ word ≡ front ++ back → word ≡ back
-one_word ahead word front back (inl no) (inl none) p q same = sym (ap (λ t. t ++ word) no) ∙ same ∙ ap (λ t. t ++ back) none
-one_word ahead word front back (inl no) (inr some) p q same =
-    absurd (none_same IsSpace word some.0 some.1 back some.2 p (sym (ap (λ t. t ++ word) no) ∙ same ∙ ap (λ t. t ++ back) some.3 ∙ append_assoc some.0 (some.1 ∷ []) back))
-one_word ahead word front back (inr some) (inl no) p q same =
-    absurd (none_same IsSpace back some.0 some.1 word some.2 q (sym (ap (λ t. t ++ back) no) ∙ sym same ∙ ap (λ t. t ++ word) some.3 ∙ append_assoc some.0 (some.1 ∷ []) word))
+one_word ahead word front back (inl nil) (inl none) p q same = sym (ap (λ t. t ++ word) nil) ∙ same ∙ ap (λ t. t ++ back) none
+one_word ahead word front back (inl nil) (inr some) p q same =
+    absurd (none_same IsSpace word some.0 some.1 back some.2 p (sym (ap (λ t. t ++ word) nil) ∙ same ∙ ap (λ t. t ++ back) some.3 ∙ append_assoc some.0 (some.1 ∷ []) back))
+one_word ahead word front back (inr some) (inl nil) p q same =
+    absurd (none_same IsSpace back some.0 some.1 word some.2 q (sym (ap (λ t. t ++ back) nil) ∙ sym same ∙ ap (λ t. t ++ word) some.3 ∙ append_assoc some.0 (some.1 ∷ []) word))
 one_word ahead word front back (inr one) (inr two) p q same =
     (one_last IsSpace one.0 two.0 word back one.1 two.1 one.2 two.2 p q
     (sym (ap (λ t. t ++ word) one.3 ∙ append_assoc one.0 (one.1 ∷ []) word) ∙ same ∙ ap (λ t. t ++ back) two.3 ∙ append_assoc two.0 (two.1 ∷ []) back)).back
@@ -295,7 +304,7 @@ only_that line stem class word form end ahead digits found cut parted at none na
     (own.front_is, further_word_once word further found own.word_is named, own.end_is, read octets own.form_is)
 
 pub form_digits : (octets others : List ℕ) → form_of octets ≡ form_of others → encode_lower octets ≡ encode_lower others
-form_digits octets [] same = sym (no_digits_behind octets (decimal 0) (let e : decimal (length octets) ++ digit_text octets ≡ decimal 0 ++ [] = cc same in sym (e ∙ append-nil (decimal 0))) (no_blank_number []))
+form_digits octets [] same = sym (no_digits_behind octets (decimal 0) (let e : decimal (length octets) ++ digit_text octets ≡ decimal 0 ++ [] = cc same in sym (e ∙ append-nil (decimal 0))) (no_blank_number [])) ∙ sym no_digits
 form_digits octets (o ∷ others) same =
     sym (digits_behind octets (decimal (length (o ∷ others)) ++ digit_text (o ∷ others)) (decimal (length (o ∷ others))) (encode_lower (o ∷ others)) (let e : decimal (length octets) ++ digit_text octets ≡ decimal (length (o ∷ others)) ++ digit_text (o ∷ others) = cc same in sym e) refl (no_blank_number (o ∷ others)))
 
@@ -389,3 +398,10 @@ found_in line word form g class cut parted at none named is word_is has_type rea
       let that = only_that line g.stem.now g.class.now word form g.end.now g.ahead.now g.digits.now (further_of g.further.now) cut parted at none word_is read front further octets behind d in
       record { front_is = that.0; further_is = that.1; end_is = that.2; digits_are = that.3 };
 }
+
+pub some_back : (back : List ℕ) (empty : Bool) → empty ≡ (length back == 0) → empty ≡ false → back ≡ [] → ⊥
+some_back back empty is fails none = false≢true (sym fails ∙ is ∙ ap (λ b. length b == 0) none)
+
+pub none_weaker : {A : Type 0} {P Q : Type 0} (o : Option A) → IfNone o P → (P → Q) → IfNone o Q
+none_weaker None p goes = goes p
+none_weaker (Some a) p goes = tt

@@ -5,6 +5,7 @@ mod Canonical
 mod FirstLine
 mod Classed
 mod Read
+mod Told
 mod Cuts
 mod DataEnds
 mod Heads

@@ -51,12 +51,12 @@ line_stays : (line shown : List ℕ) → IsRecordLine line → shown ≡ line �
 line_stays line shown is same = (subst StatesItsClass (sym same) is.states, subst (λ t. IsRewriting [] t line []) (sym same) is.own)
 
 line_rewritten : (line shown : List ℕ) → IsRecordLine line → IsShownLine line shown → StatesItsClass shown × IsRewriting [] shown line []
-line_rewritten line shown is (gets_words front further octets end items data printed fits same) =
+line_rewritten line shown is (gets_words front further octets end items d printed fits same) =
     let record_is : IsRecordInWords line shown = subst (IsRecordInWords line) (sym same) (fits is.states) in
     (record_is.states, record_is.under_root)
 line_rewritten line shown is (no_data none same) = line_stays line shown is same
-line_rewritten line shown is (no_words front further octets end data none same) = line_stays line shown is same
-line_rewritten line shown is (of_another front further octets end items data printed states other same) = line_stays line shown is same
+line_rewritten line shown is (no_words front further octets end d none same) = line_stays line shown is same
+line_rewritten line shown is (of_another front further octets end items d printed states other same) = line_stays line shown is same
 line_rewritten line shown is (too_many_items many same) = line_stays line shown is same
 
 each_rewritten : (lines shown : List (List ℕ)) → AllByRecursion IsRecordLine lines → EachIsShown lines shown → EachRewritten shown lines

@@ -1,6 +1,6 @@
 -- What is shown for the lines of a text: the data of records of further types in words in place of
 -- the generic form (RFC 3597 5).
-use Rattle.std.specs.Prelude.{◌≡◌, ◌≤◌, ◌⊎◌, ℕ, List, [], ◌∷◌, ◌++◌, length, true, IsSome, Some, ⊤}
+use Rattle.std.specs.Prelude.{◌≡◌, ◌≢◌, ◌≤◌, ◌⊎◌, ℕ, List, [], ◌∷◌, ◌++◌, length, true, IsSome, Some, ⊤}
 use Rattle.std.specs.List.{AllByRecursion, flat_map}
 use Rattle.zone_name.specs.Common.{AreOctets, Labels}
 use Rattle.zone_print.specs.Laws.{EndsWithItsFeed, HasNoFeed}

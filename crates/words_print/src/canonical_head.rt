@@ -1,5 +1,5 @@
 //! What stands before the class word on a line of a canonical text.
-ghost use Rattle.std.specs.Prelude.{◌≡◌, ◌≢◌, IfSome, slice_get, true};
+ghost use Rattle.std.specs.Prelude.{◌≡◌, ◌≢◌, EachIndex, IfSome, slice_get, slice_index, true};
 ghost use Rattle.words_print.specs.Machine.Found.{AreOwnerAndTtl, IsPlainOctet};
 ghost use Rattle.zone_words.specs.WordsLine.{IsBareText};
 
@@ -20,11 +20,19 @@ fn is_plain(octet: u8) -> bool
         && octet != b'\\'
 }
 
+/// Whether octets stand for themselves in a bare item.
+fn are_plain(octets: &[u8]) -> bool
+    ensures { result ≡ true
+        → EachIndex octets.now (λ k. IsPlainOctet (slice_index octets.now k)) }
+{
+    octets.iter().all(|octet| is_plain(*octet))
+}
+
 /// Whether a text is one bare item whose octets stand for themselves.
 pub(crate) fn is_plain_word(text: &[u8]) -> bool
     ensures { result ≡ true → IsBareText text.now }
 {
-    !text.is_empty() && text.iter().all(|octet| is_plain(*octet))
+    !text.is_empty() && are_plain(text)
 }
 
 /// Whether a text is one bare item whose octets stand for themselves, and no directive.
@@ -49,5 +57,14 @@ pub(crate) fn are_owner_and_ttl(octets: &[u8]) -> bool
     let Some((ttl, back)) = around_first(b' ', rest) else {
         return false;
     };
-    back.is_empty() && is_plain_owner(owner) && is_plain_word(ttl) && ttl_of(ttl).is_some()
+    if !back.is_empty() {
+        return false;
+    }
+    if !is_plain_owner(owner) {
+        return false;
+    }
+    if !is_plain_word(ttl) {
+        return false;
+    }
+    ttl_of(ttl).is_some()
 }

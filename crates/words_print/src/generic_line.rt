@@ -126,7 +126,8 @@ fn class_of(word: &[u8]) -> Option<Class>
 
 /// The hexadecimal digits in what stands after the backslash of a generic form.
 fn digits_of(form: &[u8]) -> &[u8]
-    ensures { (octets : List ℕ) → form.now ≡ form_of octets → result.now ≡ encode_lower octets }
+    ensures { (octets : List ℕ) → form.now ≡ form_of octets
+        → result.now ≡ encode_lower octets }
 {
     let Some((_, number)) = around_first(b' ', form) else {
         return b"";

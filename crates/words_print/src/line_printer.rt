@@ -154,7 +154,8 @@ impl LinePrinter {
     /// none.
     fn decode_octets(&mut self, digits: &[u8]) -> Result<bool, AllocError>
         ensures yes { result ≡ Ok true → decode_of digits.now ≡ Ok self.new.octets.items }
-        ensures no { result ≡ Ok false → (octets : List ℕ) → decode_of digits.now ≡ Ok octets → ⊥ }
+        ensures no { result ≡ Ok false
+            → (octets : List ℕ) → decode_of digits.now ≡ Ok octets → ⊥ }
     {
         match decode(self.alloc, digits) {
             Ok(octets) => {
@@ -211,7 +212,8 @@ impl LinePrinter {
         self.shown.clear();
         self.shown.extend_from_slice(found.stem)?;
         self.shown.push(b' ')?;
-        self.shown.extend_from_slice(found.further.mnemonic.as_bytes())?;
+        self.shown
+            .extend_from_slice(found.further.mnemonic.as_bytes())?;
         self.shown.extend_from_slice(&self.words)?;
         self.shown.extend_from_slice(found.end)
     }

@@ -1,5 +1,5 @@
 -- The parts of a line, and what a printer of lines keeps of one.
-use Rattle.std.specs.Prelude.{◌≡◌, ◌≢◌, ◌⊎◌, ℕ, List, [], ◌∷◌, ◌++◌, length, codes, decimal, slice_get, false, true, IfSome, Some}
+use Rattle.std.specs.Prelude.{◌≡◌, ◌≢◌, ◌⊎◌, ℕ, List, [], ◌∷◌, ◌++◌, length, decimal, slice_get, false, true, IfSome, Some}
 use Rattle.std.specs.List.{AllByRecursion}
 use Rattle.hex.specs.Hex.{encode_lower}
 use Rattle.zone_print.specs.Laws.{EndsWithItsFeed}

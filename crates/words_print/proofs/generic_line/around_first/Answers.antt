@@ -1,4 +1,4 @@
-use Rattle.words_print.proofs.Cuts.{around_first_at, has_none}
+use Rattle.words_print.proofs.Cuts.{around_first_at}
 use Rattle.words_print.proofs.generic_line.around_first.Goals as goal
 
 pub returns-clause-some : goal.returns-clause-some

@@ -1,4 +1,4 @@
-use Rattle.words_print.proofs.Cuts.{around_last_at, has_none}
+use Rattle.words_print.proofs.Cuts.{around_last_at}
 use Rattle.words_print.proofs.generic_line.around_last.Goals as goal
 
 pub returns-clause-some : goal.returns-clause-some

@@ -1,4 +1,4 @@
-use Rattle.std.proofs.Common.{◌≡◌, Ok, false, true}
+use Rattle.std.proofs.Common.{◌≡◌, false, true}
 use Rattle.words_print.proofs.Read.{not_read_as, read_as}
 use Rattle.words_print.proofs.line_printer.is_rewritten.Goals as goal
 
