@@ -47,3 +47,9 @@ pub fn a_generic_line_is_one_entry()
         × (flat_map item_of tokens ≡ bare h.owner ∷ bare h.ttl ∷ bare h.word
         ∷ bare (codes "TYPE" ++ decimal further.number) ∷ generic_items octets) }
 {}
+
+/// The items that are printed for a type's data are the words of that data.
+pub fn the_words_of_data()
+    ensures { (fields : Fields) (items : List TouchingItem) (octets : List ℕ)
+        → AreOfAType fields → PrintsData fields items octets → AreWords fields items octets }
+{}
