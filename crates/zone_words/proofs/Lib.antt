@@ -22,6 +22,7 @@ mod JoinedItems
 mod LengthsBefore
 mod PassedFaults
 pub mod Printed
+pub mod PrintedStanding
 mod Numbers
 mod TypeWords
 mod MnemonicOf
@@ -44,6 +45,7 @@ mod HostIdentities
 pub mod FieldLaws
 mod EachItems
 pub mod DataLaws
+pub mod Decided
 pub mod FaultsOnce
 mod GivenItems
 pub mod Cuts
@@ -61,3 +63,12 @@ pub mod Registered
 mod HeadLines
 mod InWords
 mod GenericLines
+pub mod PrintedRows
+pub mod PrintedStates
+pub mod PrintedKinds
+pub mod PrintedFields
+pub mod PrintedEach
+pub mod PrintedInRow
+pub mod PrintedCount
+pub mod PrintedWords
+pub mod PrintedDataLaws

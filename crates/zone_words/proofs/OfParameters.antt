@@ -19,3 +19,5 @@ pub mod PrintedKeys
 pub mod Stops
 pub mod PrintedValues
 pub mod EachPrinted
+pub mod PrintedTexts
+pub mod PrintedStated

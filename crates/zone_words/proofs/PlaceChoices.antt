@@ -26,7 +26,7 @@ up_to_or_not Is most once (inl found) = elim (cases_lt most found.0) [
   | inr few ↦ inl (found.0, (found.1, few))
 ]
 
-abbrev CutOrMissing : ℕ → List ℕ → Type 0
+abbrev pub CutOrMissing : ℕ → List ℕ → Type 0
 CutOrMissing c text = ((front : List ℕ) × ((back : List ℕ) × IsCutFirst c text front back)) ⊎ IsMissing c text
 
 cut_more : (c d : ℕ) (text : List ℕ) → d ≢ c → CutOrMissing c text → CutOrMissing c (d ∷ text)
@@ -34,7 +34,7 @@ cut_more c d text other (inl (front, (back, cut))) =
     inl (d ∷ front, (back, record { parts = ap (λ (l : List ℕ). d ∷ l) cut.parts; missing = (other, cut.missing) }))
 cut_more c d text other (inr missing) = inr (other, missing)
 
-cut_or_missing : (c : ℕ) (text : List ℕ) → CutOrMissing c text
+pub cut_or_missing : (c : ℕ) (text : List ℕ) → CutOrMissing c text
 cut_or_missing c [] = inr tt
 cut_or_missing c (d ∷ text) = elim (cases_eq d c) [
   | inl same ↦ inl ([], (text, record { parts = ap (λ (x : ℕ). x ∷ text) same; missing = tt }))

@@ -1,9 +1,10 @@
 //! The words that are printed for the octets of a field.
-ghost use Rattle.std.specs.Prelude.{IfErr, IfOk, OnOk};
-ghost use Rattle.zone_words.specs.Machine.PrintedFields.{HasNoOwn, PrintsOwn};
+ghost use Rattle.std.specs.Prelude.{◌≡◌, [], IfErr, IfOk, OnOk, true};
+ghost use Rattle.zone_words.specs.Machine.PrintedFields.{HasNoOwn, PrintsOwn, prints_all};
 ghost use Rattle.zone_words.specs.Parameters.Printed.{PrintsTouching};
 ghost use Rattle.zone_words.specs.Printed.{IfNoData, NoFront, PrintsFront};
 ghost use Rattle.zone_words.specs.PrintedData.{PrintsBare, PrintsField, StatesSomewhere};
+ghost use Rattle.zone_words.specs.declared.field.FieldKind.TheVariants as kinds;
 
 use crate::field::{BareKind, FieldKind};
 use crate::kinds::{
@@ -64,9 +65,9 @@ impl BareKind {
     ///
     /// `NoData` where no texts state the octets, and `OutOfMemory`. `out` may have got some texts.
     fn print_each(self, octets: &[u8], out: &mut Vec<u8>) -> Result<(), Unprinted>
-        ensures printed { OnOk result (PrintsTouching (PrintsField (FieldKind::Each self))
+        ensures printed { OnOk result (PrintsTouching (PrintsField (kinds.Each self))
             octets.now out.old.items out.new.items) }
-        ensures none { IfErr result (IfNoData (HasNoOwn (FieldKind::Each self) octets.now)) }
+        ensures none { IfErr result (IfNoData (HasNoOwn (kinds.Each self) octets.now)) }
     {
         let mut rest = octets;
         while !rest.is_empty() {
@@ -86,9 +87,9 @@ impl BareKind {
     ///
     /// Those of `print`.
     fn print_first<'o>(self, octets: &'o [u8], out: &mut Vec<u8>) -> Result<&'o [u8], Unprinted>
-        ensures printed { IfOk result (λ rest. PrintsOwn (FieldKind::Bare self) octets.now rest.now
+        ensures printed { IfOk result (λ rest. PrintsOwn (kinds.Bare self) octets.now rest.now
             out.old.items out.new.items) }
-        ensures none { IfErr result (IfNoData (HasNoOwn (FieldKind::Bare self) octets.now)) }
+        ensures none { IfErr result (IfNoData (HasNoOwn (kinds.Bare self) octets.now)) }
     {
         out.push(b' ')?;
         self.print(octets, out)
@@ -101,9 +102,9 @@ impl BareKind {
 ///
 /// `NoData` where no string is there, and `OutOfMemory`.
 fn print_one_string<'o>(octets: &'o [u8], out: &mut Vec<u8>) -> Result<&'o [u8], Unprinted>
-    ensures printed { IfOk result (λ rest. PrintsOwn FieldKind::OneString octets.now rest.now
+    ensures printed { IfOk result (λ rest. PrintsOwn kinds.OneString octets.now rest.now
         out.old.items out.new.items) }
-    ensures none { IfErr result (IfNoData (HasNoOwn FieldKind::OneString octets.now)) }
+    ensures none { IfErr result (IfNoData (HasNoOwn kinds.OneString octets.now)) }
 {
     out.push(b' ')?;
     print_string(octets, out)
@@ -115,9 +116,9 @@ fn print_one_string<'o>(octets: &'o [u8], out: &mut Vec<u8>) -> Result<&'o [u8],
 ///
 /// `NoData` where the octets are more than a string, or less, and `OutOfMemory`.
 fn print_perhaps_string(octets: &[u8], out: &mut Vec<u8>) -> Result<(), Unprinted>
-    ensures printed { OnOk result (PrintsTouching (PrintsField FieldKind::PerhapsOneString)
+    ensures printed { OnOk result (PrintsTouching (PrintsField kinds.PerhapsOneString)
         octets.now out.old.items out.new.items) }
-    ensures none { IfErr result (IfNoData (HasNoOwn FieldKind::PerhapsOneString octets.now)) }
+    ensures none { IfErr result (IfNoData (HasNoOwn kinds.PerhapsOneString octets.now)) }
 {
     if octets.is_empty() {
         return Ok(());
@@ -136,12 +137,12 @@ fn print_perhaps_string(octets: &[u8], out: &mut Vec<u8>) -> Result<(), Unprinte
 ///
 /// `NoData` where there are some.
 fn print_nothing(octets: &[u8]) -> Result<(), Unprinted>
-    ensures none { IfErr result (IfNoData (HasNoOwn FieldKind::Nothing octets.now)) }
+    ensures done { OnOk result (octets.now ≡ []) }
+    ensures none { IfErr result (IfNoData (HasNoOwn kinds.Nothing octets.now)) }
 {
-    if octets.is_empty() {
-        Ok(())
-    } else {
-        Err(Unprinted::NoData)
+    match octets {
+        [] => Ok(()),
+        _ => Err(Unprinted::NoData),
     }
 }
 
@@ -153,12 +154,14 @@ impl FieldKind {
     ///
     /// `NoData` where no items state the octets, and `OutOfMemory`. `out` may have got some words.
     fn print_all(self, octets: &[u8], out: &mut Vec<u8>) -> Result<(), Unprinted>
+        requires { prints_all self ≡ true }
         ensures printed { OnOk result
             (PrintsTouching (PrintsField self) octets.now out.old.items out.new.items) }
         ensures none { IfErr result (IfNoData (HasNoOwn self octets.now)) }
     {
         match self {
-            FieldKind::Value | FieldKind::QuotedValue => print_value_item(octets, out),
+            FieldKind::Value => print_value_item(octets, out),
+            FieldKind::QuotedValue => print_value_item(octets, out),
             FieldKind::Hex => print_hex(octets, out),
             FieldKind::Base64 => print_base64_item(octets, out),
             FieldKind::Strings => print_strings(octets, out),
@@ -170,7 +173,9 @@ impl FieldKind {
             FieldKind::Nothing => print_nothing(octets),
             FieldKind::Each(kind) => kind.print_each(octets, out),
             FieldKind::PerhapsOneString => print_perhaps_string(octets, out),
-            FieldKind::Bare(_) | FieldKind::OneString => Err(Unprinted::NoData),
+            // Neither is printed for all octets.
+            FieldKind::Bare(_) => Err(Unprinted::NoData),
+            FieldKind::OneString => Err(Unprinted::NoData),
         }
     }
 

@@ -5,7 +5,7 @@ use Rattle.zone_words.proofs.OfParameters.Keys.{key_once}
 use Rattle.zone_words.proofs.OfParameters.Lists.{zip_once}
 use Rattle.zone_words.specs.Parameters.Keys.{number_of}
 
-stated_once : (text : List ℕ) (a b : List ℕ) → AllZip IsKeyText (listed text) a → AllZip IsKeyText (listed text) b → a ≡ b
+pub stated_once : (text : List ℕ) (a b : List ℕ) → AllZip IsKeyText (listed text) a → AllZip IsKeyText (listed text) b → a ≡ b
 stated_once text a b x y = zip_once IsKeyText (λ text a b x y. x.numbered ∙ ap number_of (key_once text x.key y.key x.spelt y.spelt) ∙ sym y.numbered) (listed text) a b x y
 
 pub lists_keys_once : (text a b : List ℕ) → ListsKeys text a → ListsKeys text b → a ≡ b

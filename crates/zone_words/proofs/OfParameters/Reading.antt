@@ -16,11 +16,11 @@ use Rattle.zone_words.specs.declared.parameters.stated.Stated.{Stated}
 
 -- ---- one more parameter
 
-each_more : (items rest next : List TouchingItem) (before : List Parameter) (text : ParameterText) (p : Parameter) → StateEach items before rest → BeginWith rest text next → StatesParameter text p → StateEach items (before ++ p ∷ []) next
+pub each_more : (items rest next : List TouchingItem) (before : List Parameter) (text : ParameterText) (p : Parameter) → StateEach items before rest → BeginWith rest text next → StatesParameter text p → StateEach items (before ++ p ∷ []) next
 each_more items rest next [] text p each begin states = (text, next, subst (λ t. BeginWith t text next) (sym each) begin, states, refl)
 each_more items rest next (q ∷ before) text p each begin states = (each.0, each.1, each.2, each.3, each_more each.1 rest next before text p each.4 begin states)
 
-once_more : (before : List Parameter) (p : Parameter) → AreOnce before → IsNew p.number before → AreOnce (before ++ p ∷ [])
+pub once_more : (before : List Parameter) (p : Parameter) → AreOnce before → IsNew p.number before → AreOnce (before ++ p ∷ [])
 once_more [] p once new = (tt, tt)
 once_more (q ∷ before) p once new = (AllByRecursion-append (λ (r : Parameter). r.number ≢ q.number) before (p ∷ []) once.0 (λ e. new.0 (sym e), tt), once_more before p once.1 new.1)
 
@@ -31,7 +31,7 @@ stated_more all items rest text old new begin adds has =
 
 -- ---- where the next parameter fails
 
-fails_by : (all items rest : List TouchingItem) (before : List Parameter) (text : ParameterText) (fault : WordsFault) → Precede all items before → BeginWith items text rest → ((other : ParameterText) (next : List TouchingItem) → BeginWith items other next → other ≡ text) → 0 < length items → FailsAfter before text fault → FailsParameters all fault
+pub fails_by : (all items rest : List TouchingItem) (before : List Parameter) (text : ParameterText) (fault : WordsFault) → Precede all items before → BeginWith items text rest → ((other : ParameterText) (next : List TouchingItem) → BeginWith items other next → other ≡ text) → 0 < length items → FailsAfter before text fault → FailsParameters all fault
 fails_by all items rest before text _ precede begin only some (keyless none) = no_key before items precede (record { some = some; none = λ other next key begins spells. none key (subst (λ (t : ParameterText). SpellsKey t.key key) (only other next begins) spells) })
 fails_by all items rest before text _ precede begin only some (again key spells there) = repeated_key before items key text.value precede (record { text = text; rest = rest; begin = begin; spelt = spells; is_value = refl }) there
 fails_by all items rest before text fault precede begin only some (valueless key _ spells new fails) = bad_value before items key text.value fault precede (record { text = text; rest = rest; begin = begin; spelt = spells; is_value = refl }) new fails
@@ -85,11 +85,11 @@ others_new : (k : ℕ) (before : List Parameter) → Others k (map sent before) 
 others_new k [] others = tt
 others_new k (p ∷ before) others = (others.0, others_new k before others.1)
 
-new_others : (k : ℕ) (before : List Parameter) → IsNew k before → Others k (map sent before)
+pub new_others : (k : ℕ) (before : List Parameter) → IsNew k before → Others k (map sent before)
 new_others k [] new = tt
 new_others k (p ∷ before) new = (new.0, new_others k before new.1)
 
-move : (P : Sent → Type 0) (xs ys : List Sent) → IsPermutation xs ys → AllByRecursion P xs → AllByRecursion P ys
+pub move : (P : Sent → Type 0) (xs ys : List Sent) → IsPermutation xs ys → AllByRecursion P xs → AllByRecursion P ys
 move P xs ys same each = recursion_from_All P ys (All-permutation P xs ys same (All-from_recursion P xs each))
 
 there_by : (k : ℕ) (p : Parameter) (before : List Parameter) → (p.number ≡ k) ⊎ (p.number ≢ k) → IsThere before k ⊎ IsNew k before → IsThere (p ∷ before) k ⊎ IsNew k (p ∷ before)
@@ -97,7 +97,7 @@ there_by k p before (inl e) more = inl (inl e)
 there_by k p before (inr other) (inl there) = inl (inr there)
 there_by k p before (inr other) (inr new) = inr (other, new)
 
-there_or_new : (k : ℕ) (before : List Parameter) → IsThere before k ⊎ IsNew k before
+pub there_or_new : (k : ℕ) (before : List Parameter) → IsThere before k ⊎ IsNew k before
 there_or_new k [] = inr tt
 there_or_new k (p ∷ before) = there_by k p before (cases_eq p.number k) (there_or_new k before)
 

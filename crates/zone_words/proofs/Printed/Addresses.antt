@@ -1,9 +1,6 @@
 -- Addresses that are printed.
 use Rattle.zone_rdata.proofs.Addresses.AddressOctets.{ipv4_count, ipv6_count}
-use Rattle.zone_name.proofs.Texts.Bare.{StandsBare}
-use Rattle.zone_rdata.proofs.Addresses.AddressLaws.{ipv4_plain, ipv4_printed, ipv6_plain, ipv6_printed, ipv6_some}
-use Rattle.zone_rdata.proofs.Addresses.AddressParts.{ipv4_some}
-use Rattle.zone_rdata.proofs.Texts.Standing.{bare_address}
+use Rattle.zone_rdata.proofs.Addresses.AddressLaws.{ipv4_printed, ipv6_printed}
 use Rattle.zone_rdata.specs.Address.{ipv4_text, ipv6_text}
 use Rattle.zone_words.proofs.Common.{AllByRecursion-front, AreOctets, List, bytes_each, get_or, length, refl, subst, sym, ℕ, ◌++◌, ◌<◌, ◌≡◌}
 use Rattle.zone_words.proofs.Printed.Fronts.{front_printed, front_short}
@@ -30,16 +27,10 @@ no_ipv4 octets short = front_short StatesIpv4 4 octets ipv4_count short
 pub no_ipv6 : (octets : List ℕ) → length octets < 16 → NoFront StatesIpv6 octets
 no_ipv6 octets short = front_short StatesIpv6 16 octets ipv6_count short
 
--- ---- they state the octets, and stand outside quotes
+-- ---- they state the octets
 
 pub ipv4_printed_states : (text octets : List ℕ) → PrintsIpv4 text octets → StatesIpv4 text octets
 ipv4_printed_states text octets p = subst (λ t. StatesIpv4 t octets) (sym p.canonical) (ipv4_printed octets p.four p.each)
 
 pub ipv6_printed_states : (text octets : List ℕ) → PrintsIpv6 text octets → StatesIpv6 text octets
 ipv6_printed_states text octets p = subst (λ t. StatesIpv6 t octets) (sym p.canonical) (ipv6_printed octets p.sixteen p.each)
-
-pub ipv4_printed_stands : (text octets : List ℕ) → PrintsIpv4 text octets → StandsBare text
-ipv4_printed_stands text octets p = subst StandsBare (sym p.canonical) (bare_address (ipv4_text octets) (ipv4_some _ octets (ipv4_printed octets p.four p.each)) (ipv4_plain octets p.four p.each))
-
-pub ipv6_printed_stands : (text octets : List ℕ) → PrintsIpv6 text octets → StandsBare text
-ipv6_printed_stands text octets p = subst StandsBare (sym p.canonical) (bare_address (ipv6_text octets) (ipv6_some _ octets (ipv6_printed octets p.sixteen p.each)) (ipv6_plain octets p.sixteen p.each))

@@ -5,12 +5,10 @@ use Rattle.std.proofs.Math.Nat.{div-lt_iff_lt-mul, mul-div_left, mul-le-mul_righ
 use Rattle.std.specs.Int.{from_be_bytes}
 use Rattle.zone_rdata.specs.Item.{bare, quoted}
 use Rattle.zone_rdata.proofs.Items.GenericLaws.{decimal-is}
-use Rattle.zone_rdata.proofs.Texts.Standing.{IsPrintedItem, bare_decimal, bare_tested}
-use Rattle.zone_rdata.proofs.Common.{StandsBare, bare_append, bare_octets, is_bare}
 use Rattle.zone_rdata.specs.Text.{written_item}
 use Rattle.zone_name.specs.Spelling.{is_digit}
 use Rattle.zone_words.proofs.Scaled.{m_cut}
-use Rattle.zone_words.proofs.Common.{AllByRecursion, AreCentimetres, Bool, IsAltitude, IsAngle, IsScaled, above, below, false, folded_label, if◌then◌else◌, nat_lt, true, with_point, without_m, ◌==◌, BeginsWithPlace, BeginsWithSize, IsFirstDigit, IsLocation, List, RawItem, StatesLocation, [], ap, append-nil, append_assoc, arith, cases_lt, drop, flat_map-append, from_middle, inl, inr, location_octets, nat_tests, pow-le-pow_right, pow-suc, refl, subst, sym, take, w32, ℕ, ◌*◌, ◌++◌, ◌+◌, ◌-◌, ◌/◌, ◌%◌, ◌<◌, ◌^◌, ◌∙◌, ◌∷◌, ◌≡◌, ◌≤◌}
+use Rattle.zone_words.proofs.Common.{AreCentimetres, Bool, IsAltitude, IsAngle, IsScaled, above, below, false, folded_label, if◌then◌else◌, nat_lt, true, with_point, without_m, ◌==◌, BeginsWithPlace, BeginsWithSize, IsFirstDigit, IsLocation, List, RawItem, StatesLocation, [], ap, append-nil, append_assoc, arith, cases_lt, drop, flat_map-append, from_middle, inl, inr, location_octets, nat_tests, pow-le-pow_right, pow-suc, refl, subst, sym, take, w32, ℕ, ◌*◌, ◌++◌, ◌+◌, ◌-◌, ◌/◌, ◌%◌, ◌<◌, ◌^◌, ◌∙◌, ◌∷◌, ◌≡◌, ◌≤◌}
 use Rattle.zone_words.specs.Kinds.Location.{IsDigitAndPower, IsOnEarth, IsPlace, IsSize, PrintsLocation, altitude_text, angle_at, angle_items, capital_letter, half_at, hundredths, last_digit, letter, location_items, metres, place_items, seconds, size_text, whole}
 use Rattle.zone_words.specs.Printed.{after_blanks}
 use Rattle.zone_words.specs.declared.kinds.location.Location.{Location}
@@ -118,7 +116,7 @@ place_value : (low : Bool) (n : ℕ) → nat_lt n 2147483648 ≡ low → n ≡ f
 place_value true n e = grind (arith, nat_tests)
 place_value false n e = grind (arith, nat_tests)
 
-few_thousandths : (axis : Axis) (n : ℕ) → IsPlace axis n → angle_at n ≤ 648000000
+pub few_thousandths : (axis : Axis) (n : ℕ) → IsPlace axis n → angle_at n ≤ 648000000
 few_thousandths Latitude n is = omega (arith, is)
 few_thousandths Longitude n is = is
 
@@ -144,7 +142,7 @@ altitude_by false n few e =
     let over : 10000000 ≤ n = grind (arith, nat_tests) in
     above (n - 10000000) (metres_scaled (n - 10000000) (omega arith)) (omega arith) (omega arith)
 
-size_few : (n : ℕ) → IsDigitAndPower n → n / 16 * 10 ^ (n % 16) ≤ 9000000000
+pub size_few : (n : ℕ) → IsDigitAndPower n → n / 16 * 10 ^ (n % 16) ≤ 9000000000
 size_few n is =
     let most : 10 ^ (n % 16) ≤ 1000000000 = pow-le-pow_right {n = 10} (omega arith) {i = n % 16} {j = 9} (omega (arith, is.1.0)) in
     let nine : n / 16 * 10 ^ (n % 16) ≤ 9 * 10 ^ (n % 16) = mul-le-mul_right (10 ^ (n % 16)) is.0 in
@@ -198,44 +196,6 @@ location_printed_states items octets (l, (is, (are, value))) =
         value,
       ),
     )
-
--- ---- what is printed stands as it is printed
-
-digit_bare : (n : ℕ) → is_bare (last_digit n) ≡ true
-digit_bare n = grind (arith, nat_tests)
-
-seconds_stand : (n : ℕ) → n < 60000 → StandsBare (seconds n)
-seconds_stand n few = bare_append (decimal (n / 1000)) (46 ∷ last_digit (n / 100) ∷ last_digit (n / 10) ∷ last_digit n ∷ []) (bare_decimal (n / 1000) (omega arith)) (bare_octets (46 ∷ last_digit (n / 100) ∷ last_digit (n / 10) ∷ last_digit n ∷ []) (omega arith) (refl, (digit_bare (n / 100), (digit_bare (n / 10), (digit_bare n, tt)))))
-
-hundredths_stand : (none : Bool) (c : ℕ) → StandsBare ((if none then [] else 46 ∷ last_digit (c / 10) ∷ last_digit c ∷ []) ++ 109 ∷ [])
-hundredths_stand true c = bare_tested (109 ∷ []) refl
-hundredths_stand false c = bare_octets (46 ∷ last_digit (c / 10) ∷ last_digit c ∷ 109 ∷ []) (omega arith) (refl, (digit_bare (c / 10), (digit_bare c, (refl, tt))))
-
-metres_stand : (c : ℕ) → c < 2 ^ 64 → StandsBare (metres c)
-metres_stand c few = bare_append (decimal (c / 100)) (hundredths c ++ 109 ∷ []) (bare_decimal (c / 100) (omega arith)) (hundredths_stand (c % 100 == 0) c)
-
-capital_stands : (axis : Axis) (half : Half) → StandsBare (capital_letter axis half)
-capital_stands Latitude Upper = bare_tested (78 ∷ []) refl
-capital_stands Latitude Lower = bare_tested (83 ∷ []) refl
-capital_stands Longitude Upper = bare_tested (69 ∷ []) refl
-capital_stands Longitude Lower = bare_tested (87 ∷ []) refl
-
-place_stands : (axis : Axis) (n : ℕ) (rest : List RawItem) → IsPlace axis n → AllByRecursion IsPrintedItem rest → AllByRecursion IsPrintedItem (place_items axis n ++ rest)
-place_stands axis n rest is stand =
-    let few = few_thousandths axis n is in
-    (bare_decimal (angle_at n / 3600000) (omega arith), (bare_decimal (angle_at n / 60000 % 60) (omega arith), (seconds_stand (angle_at n % 60000) (omega arith), (capital_stands axis (half_at n), stand))))
-
-altitude_stands : (low : Bool) (n : ℕ) → n < 2 ^ 32 → StandsBare (if low then 45 ∷ metres (10000000 - n) else metres (n - 10000000))
-altitude_stands true n few = bare_append (45 ∷ []) (metres (10000000 - n)) (bare_tested (45 ∷ []) refl) (metres_stand (10000000 - n) (omega arith))
-altitude_stands false n few = metres_stand (n - 10000000) (omega arith)
-
-size_stands : (n : ℕ) → IsDigitAndPower n → StandsBare (size_text n)
-size_stands n is = let few = size_few n is in metres_stand (n / 16 * 10 ^ (n % 16)) (omega arith)
-
-pub location_printed_stands : (items : List RawItem) (octets : List ℕ) → PrintsLocation items octets → AllByRecursion IsPrintedItem items
-location_printed_stands items octets (l, (is, (are, value))) =
-    let last : List RawItem = bare (altitude_text l.altitude) ∷ bare (size_text l.size) ∷ bare (size_text l.horizontal) ∷ bare (size_text l.vertical) ∷ [] in
-    subst (AllByRecursion IsPrintedItem) (sym are) (place_stands Latitude l.latitude (place_items Longitude l.longitude ++ last) is.latitude (place_stands Longitude l.longitude last is.longitude (altitude_stands (nat_lt l.altitude 10000000) l.altitude is.altitude, (size_stands l.size is.size, (size_stands l.horizontal is.horizontal, (size_stands l.vertical is.vertical, tt))))))
 
 -- ---- one text is printed
 

@@ -1,16 +1,14 @@
--- Numbers and words that are printed state what they are printed for, and stand outside quotes.
+-- Numbers and words that are printed state what they are printed for.
 use Rattle.std.specs.Prelude.{decimal}
-use Rattle.zone_name.proofs.Texts.Bare.{StandsBare, bare_append}
 use Rattle.zone_rdata.proofs.Items.GenericLaws.{decimal-is}
-use Rattle.zone_rdata.proofs.Texts.Standing.{are_bare, bare_decimal, bare_tested}
 use Rattle.zone_rdata.specs.Words.{word_or_numbered}
-use Rattle.zone_words.proofs.Common.{IsDecimal, IsInOctets, IsNumbered, IsWordAmong, List, Named, None, Option, Some, Width, [], arith, by_mnemonic, by_number, byte_len, certificate_types, codes, each_mnemonic, inl, list_all, mnemonic_among, refl, registered_types, subst, sym, true, w16, w32, w8, ℕ, ◌++◌, ◌<◌, ◌^◌, ◌≡◌, ◌≤◌}
+use Rattle.zone_words.proofs.Common.{IsDecimal, IsInOctets, IsNumbered, IsWordAmong, List, Named, None, Option, Some, Width, [], arith, by_mnemonic, by_number, byte_len, certificate_types, codes, inl, mnemonic_among, refl, registered_types, subst, sym, w16, w32, w8, ℕ, ◌++◌, ◌<◌, ◌^◌, ◌≡◌, ◌≤◌}
 use Rattle.zone_words.specs.Kinds.Number.{PrintsNumber, PrintsU8, PrintsU16, PrintsU32, StatesU8, StatesU16, StatesU32}
-use Rattle.zone_words.specs.Kinds.Word.{PrintsAlgorithm, PrintsCertificateType, PrintsType, StatesAlgorithm, StatesCertificateType, StatesType, type_word}
+use Rattle.zone_words.specs.Kinds.Word.{PrintsAlgorithm, PrintsCertificateType, PrintsType, StatesAlgorithm, StatesCertificateType, StatesType}
 
 -- ---- numbers
 
-short : (w : Width) (n : ℕ) → 256 ^ byte_len w ≤ 2 ^ 64 → n < 256 ^ byte_len w → n < 2 ^ 64
+pub short : (w : Width) (n : ℕ) → 256 ^ byte_len w ≤ 2 ^ 64 → n < 256 ^ byte_len w → n < 2 ^ 64
 short w n small fits = omega (arith, small, fits)
 
 pub number_states : (w : Width) (text octets : List ℕ) → 256 ^ byte_len w ≤ 2 ^ 64 → PrintsNumber w text octets → IsInOctets (IsDecimal text) w octets
@@ -21,26 +19,14 @@ number_states w text octets small p = record {
   value = p.value;
 }
 
-pub number_stands : (w : Width) (text octets : List ℕ) → 256 ^ byte_len w ≤ 2 ^ 64 → PrintsNumber w text octets → StandsBare text
-number_stands w text octets small p = subst StandsBare (sym p.stated) (bare_decimal p.number (short w p.number small p.fits))
-
 pub u8_printed_states : (text octets : List ℕ) → PrintsU8 text octets → StatesU8 text octets
 u8_printed_states text octets p = number_states w8 text octets (omega arith) p
-
-pub u8_printed_stands : (text octets : List ℕ) → PrintsU8 text octets → StandsBare text
-u8_printed_stands text octets p = number_stands w8 text octets (omega arith) p
 
 pub u16_printed_states : (text octets : List ℕ) → PrintsU16 text octets → StatesU16 text octets
 u16_printed_states text octets p = number_states w16 text octets (omega arith) p
 
-pub u16_printed_stands : (text octets : List ℕ) → PrintsU16 text octets → StandsBare text
-u16_printed_stands text octets p = number_stands w16 text octets (omega arith) p
-
 pub u32_printed_states : (text octets : List ℕ) → PrintsU32 text octets → StatesU32 text octets
 u32_printed_states text octets p = number_states w32 text octets (omega arith) p
-
-pub u32_printed_stands : (text octets : List ℕ) → PrintsU32 text octets → StandsBare text
-u32_printed_stands text octets p = number_stands w32 text octets (omega arith) p
 
 -- ---- words
 
@@ -52,10 +38,6 @@ word_states : (rows : List Named) (name : List ℕ) (row : Option (List ℕ)) (n
 word_states rows name None n e few = by_number (numbered_by name n few)
 word_states rows name (Some word) n e few = by_mnemonic (record { name = word; row = e; same = refl })
 
-word_stands : (rows : List Named) (name : List ℕ) (row : Option (List ℕ)) (n : ℕ) → list_all (λ row. are_bare row.mnemonic) rows ≡ true → StandsBare (name ++ decimal n) → mnemonic_among rows n ≡ row → StandsBare (word_or_numbered row name n)
-word_stands rows name None n all numbered e = numbered
-word_stands rows name (Some word) n all numbered e = bare_tested word (each_mnemonic (λ _ mnemonic. are_bare mnemonic) rows all n word e)
-
 pub algorithm_printed_states : (text octets : List ℕ) → PrintsAlgorithm text octets → StatesAlgorithm text octets
 algorithm_printed_states text octets p = record {
   number = p.number;
@@ -64,9 +46,6 @@ algorithm_printed_states text octets p = record {
   value = p.value;
 }
 
-pub algorithm_printed_stands : (text octets : List ℕ) → PrintsAlgorithm text octets → StandsBare text
-algorithm_printed_stands text octets p = u8_printed_stands text octets p
-
 pub certificate_printed_states : (text octets : List ℕ) → PrintsCertificateType text octets → StatesCertificateType text octets
 certificate_printed_states text octets p = record {
   number = p.number;
@@ -74,10 +53,6 @@ certificate_printed_states text octets p = record {
   fits = p.fits;
   value = p.value;
 }
-
-pub certificate_printed_stands : (text octets : List ℕ) → PrintsCertificateType text octets → StandsBare text
-certificate_printed_stands text octets p =
-    subst StandsBare (sym p.stated) (word_stands certificate_types [] (mnemonic_among certificate_types p.number) p.number refl (bare_decimal p.number (short w16 p.number (omega arith) p.fits)) refl)
 
 pub type_printed_states : (word octets : List ℕ) → PrintsType word octets → StatesType word octets
 type_printed_states word octets p = record {
@@ -89,11 +64,3 @@ type_printed_states word octets p = record {
   fits = p.fits;
   value = p.value;
 }
-
--- the word of any type, as a bitmap's too
-pub type_word_stands : (n : ℕ) → n < 2 ^ 64 → StandsBare (type_word n)
-type_word_stands n few =
-    word_stands registered_types (codes "TYPE") (mnemonic_among registered_types n) n refl (bare_append (codes "TYPE") (decimal n) (bare_tested (codes "TYPE") refl) (bare_decimal n few)) refl
-
-pub type_printed_stands : (word octets : List ℕ) → PrintsType word octets → StandsBare word
-type_printed_stands word octets p = subst StandsBare (sym p.stated.0) (type_word_stands p.number (short w16 p.number (omega arith) p.fits))

@@ -1,11 +1,9 @@
--- Hexadecimal digits that are printed in groups state their octets, and stand outside quotes.
+-- Hexadecimal digits that are printed in groups state their octets.
 use Rattle.hex.proofs.HexLemmas.{decode_sized-encode_lower, length-encode_with}
 use Rattle.hex.specs.Hex.{decode_sized, lower_digits}
-use Rattle.zone_name.proofs.Texts.Bare.{StandsBare, bare_append}
-use Rattle.zone_rdata.proofs.Texts.Standing.{bare_hex, bare_tested}
 use Rattle.zone_rdata.specs.Address.{AddressPart, AreParts, IsGroup, parts_octets}
-use Rattle.zone_words.proofs.Common.{AllByRecursion, AllByRecursion-back, AllByRecursion-front, AllZip, AreOctets, List, [], ap, arith, each_below, encode_lower, false, flat_map, inl, join_with_byte, length, length-append, map, refl, replicate, subst, sym, ℕ, ◌*◌, ◌++◌, ◌-◌, ◌<◌, ◌∙◌, ◌∷◌, ◌≡◌}
-use Rattle.zone_words.specs.Kinds.Eui.{IsPair, PrintsEui, StatesEui, eui_text}
+use Rattle.zone_words.proofs.Common.{AllByRecursion, AllByRecursion-back, AllByRecursion-front, AllZip, AreOctets, List, [], ap, arith, each_below, encode_lower, false, flat_map, inl, join_with_byte, length, length-append, map, refl, replicate, subst, ℕ, ◌*◌, ◌++◌, ◌-◌, ◌<◌, ◌∙◌, ◌∷◌, ◌≡◌}
+use Rattle.zone_words.specs.Kinds.Eui.{IsPair, PrintsEui, StatesEui}
 use Rattle.zone_words.specs.Kinds.NodeId.{PrintsNodeId, StatesNodeId}
 
 -- ---- identifiers of hardware
@@ -21,14 +19,6 @@ eui_printed_states count text octets p = record {
   parted = p.printed;
   counted = p.counted;
 }
-
-pairs_stand : (octets : List ℕ) → 0 < length octets → AreOctets octets → StandsBare (eui_text octets)
-pairs_stand [] some each = absurd (omega arith)
-pairs_stand (c ∷ []) some each = bare_hex c [] each
-pairs_stand (c ∷ d ∷ octets) some each = bare_append (encode_lower (c ∷ [])) (45 ∷ eui_text (d ∷ octets)) (bare_hex c [] (each.0, tt)) (bare_append (45 ∷ []) (eui_text (d ∷ octets)) (bare_tested (45 ∷ []) refl) (pairs_stand (d ∷ octets) (omega arith) each.1))
-
-pub eui_printed_stands : (count : ℕ) (text octets : List ℕ) → 0 < count → PrintsEui count text octets → StandsBare text
-eui_printed_stands count text octets some p = subst StandsBare (sym p.printed) (pairs_stand octets (omega (arith, some, p.counted)) p.each)
 
 -- ---- identifiers of nodes
 
@@ -75,17 +65,3 @@ node_id_printed_states text octets p = record {
   };
   four = omega (arith, ap length p.whole, two_each p.groups p.two, p.four);
 }
-
-bare_group : (group : List ℕ) → length group ≡ 2 → AreOctets group → StandsBare (encode_lower group)
-bare_group [] two each = absurd (omega (arith, two))
-bare_group (c ∷ group) two each = bare_hex c group each
-
-groups_stand : (groups : List (List ℕ)) → 0 < length groups → AreTwo groups → AreOctets (flat_map (λ group. group) groups) → StandsBare (join_with_byte 58 (map encode_lower groups))
-groups_stand [] some two each = absurd (omega arith)
-groups_stand (g ∷ []) some two each = bare_group g two.0 (AllByRecursion-front (λ c. c < 256) g [] each)
-groups_stand (g ∷ h ∷ groups) some two each =
-    bare_append (encode_lower g) (58 ∷ join_with_byte 58 (map encode_lower (h ∷ groups))) (bare_group g two.0 (AllByRecursion-front (λ c. c < 256) g (flat_map (λ group. group) (h ∷ groups)) each))
-    (bare_append (58 ∷ []) (join_with_byte 58 (map encode_lower (h ∷ groups))) (bare_tested (58 ∷ []) refl) (groups_stand (h ∷ groups) (omega arith) two.1 (AllByRecursion-back (λ c. c < 256) g (flat_map (λ group. group) (h ∷ groups)) each)))
-
-pub node_id_printed_stands : (text octets : List ℕ) → PrintsNodeId text octets → StandsBare text
-node_id_printed_stands text octets p = subst StandsBare (sym p.printed) (groups_stand p.groups (omega (arith, p.four)) p.two (subst AreOctets p.whole p.each))

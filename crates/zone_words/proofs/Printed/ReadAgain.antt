@@ -1,10 +1,8 @@
--- What is printed states the octets that it was printed for, and stands as items of an entry.
+-- What is printed states the octets that it was printed for.
 use Rattle.hex.proofs.HexLemmas.{decode_of-encode_lower}
-use Rattle.zone_words.proofs.Common.{AllByRecursion, AllZip, AreOctets, IsHex, List, RawItem, [], ap, append-nil, arith, decode_of-ok, each_below, encode_lower, length, lit<, map, refl, subst, sym, ℕ, ◌<◌, ◌∙◌, ◌∷◌, ◌≡◌}
-use Rattle.zone_name.proofs.Texts.Bare.{StandsBare}
-use Rattle.zone_rdata.proofs.Strings.StringLaws.{printed_spells, printed_stands}
-use Rattle.zone_rdata.proofs.Texts.Standing.{IsPrintedItem, bare_hex}
-use Rattle.zone_rdata.specs.Item.{bare, quoted}
+use Rattle.zone_words.proofs.Common.{AllByRecursion, AllZip, IsHex, List, RawItem, [], append-nil, arith, each_below, length, lit<, map, refl, subst, sym, ℕ, ◌∷◌, ◌≡◌}
+use Rattle.zone_rdata.proofs.Strings.StringLaws.{printed_spells}
+use Rattle.zone_rdata.specs.Item.{quoted}
 use Rattle.zone_rdata.specs.Strings.{IsString, SpellsString, inside_text}
 use Rattle.zone_words.proofs.Printed.Strings.{as_item}
 use Rattle.zone_words.specs.Kinds.AfterLength.{StatesAfterLength}
@@ -55,13 +53,6 @@ salt_printed_states text octets printed = after_length_states IsPrintedSalt IsSa
 pub identity_printed_states : (text octets : List ℕ) → PrintsHostIdentityTag text octets → StatesHostIdentityTag text octets
 identity_printed_states text octets printed = after_length_states IsLowerHex IsHex lower_is_hex text octets printed
 
-lower_stands : (text octets : List ℕ) → IsLowerHex text octets → StandsBare text
-lower_stands text [] is = let some = is.some in absurd (omega (arith, some))
-lower_stands text (c ∷ octets) is = subst StandsBare (sym is.digits) (bare_hex c octets is.each)
-
-pub hex_printed_stands : (items : List RawItem) (octets : List ℕ) → PrintsHex items octets → AllByRecursion IsPrintedItem items
-hex_printed_stands items octets printed = subst (AllByRecursion IsPrintedItem) (sym printed.2) (lower_stands printed.0 octets printed.1, tt)
-
 -- ---- strings
 
 pub string_printed_states : (text octets : List ℕ) → PrintsString text octets → IsAString text octets
@@ -84,10 +75,3 @@ strings_printed_states items octets printed =
       spelt = record { some = omega (arith, some, as_many printed.strings); each = each_spelt printed.strings printed.are.each };
       value = printed.value;
     })
-
-each_stands : (strings : List (List ℕ)) → AllByRecursion IsString strings → AllByRecursion IsPrintedItem (map as_item strings)
-each_stands [] each = tt
-each_stands (s ∷ strings) each = (printed_stands s each.0, each_stands strings each.1)
-
-pub strings_printed_stand : (items : List RawItem) (octets : List ℕ) → PrintsStrings items octets → AllByRecursion IsPrintedItem items
-strings_printed_stand items octets printed = subst (AllByRecursion IsPrintedItem) (sym printed.printed) (each_stands printed.strings printed.are.each)

@@ -1,16 +1,11 @@
--- A value that is printed states its octets, whether quotes are due or not; and a tag and a salt
--- stand outside quotes.
-use Rattle.std.proofs.Common.{codes}
-use Rattle.zone_words.proofs.Common.{AllByRecursion-append, AreOctets, IsUnit, List, RawItem, Unescaped, [], append-nil, arith, flat_map-append, map-append, nat_tests, no_octet, refl, subst, sym, true, ℕ, ◌++◌, ◌∷◌, ◌≡◌}
-use Rattle.zone_name.proofs.Texts.Bare.{StandsBare, bare_octets, is_bare}
-use Rattle.zone_rdata.proofs.Common.{each_weaker}
+-- A value that is printed states its octets, whether quotes are due or not.
+use Rattle.zone_words.proofs.Common.{AllByRecursion-append, AreOctets, IsUnit, List, RawItem, Unescaped, [], append-nil, arith, flat_map-append, map-append, no_octet, refl, subst, sym, ℕ, ◌++◌, ◌∷◌}
 use Rattle.zone_rdata.proofs.Strings.StringLaws.{printed_spells}
 use Rattle.zone_rdata.specs.Strings.{inside_text}
 use Rattle.zone_words.specs.FirstItem.{FirstStates}
-use Rattle.zone_words.specs.Kinds.Tag.{PrintsTag}
 use Rattle.zone_words.specs.Kinds.Value.{PrintsValue, StatesQuotedValue, StatesValue}
 
-value_unescaped : (octets : List ℕ) → AreOctets octets → Unescaped (inside_text octets) octets
+pub value_unescaped : (octets : List ℕ) → AreOctets octets → Unescaped (inside_text octets) octets
 value_unescaped [] each = record { units = []; each = tt; parts = refl; value = refl }
 value_unescaped (c ∷ octets) each =
     let first = printed_spells (c ∷ []) (record { short = omega arith; each = (each.0, tt) }) in
@@ -27,7 +22,3 @@ value_printed_states items octets printed = subst (λ items. FirstStates StatesQ
 
 pub bare_or_quoted_value : (items : List RawItem) (octets : List ℕ) → PrintsValue items octets → FirstStates StatesValue items octets
 bare_or_quoted_value items octets printed = subst (λ items. FirstStates StatesValue items octets) (sym printed.1) (value_unescaped octets printed.0)
-
-pub tag_printed_stands : (text octets : List ℕ) → PrintsTag text octets → StandsBare text
-tag_printed_stands text octets printed =
-    bare_octets text printed.0.some (each_weaker (λ c. is_bare c ≡ true) (λ c letter. grind (arith, nat_tests)) text printed.0.each)

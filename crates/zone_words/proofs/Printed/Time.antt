@@ -1,6 +1,5 @@
--- The date of a time is printed, states its octets, and stands outside quotes.
-use Rattle.zone_rdata.proofs.Common.{StandsBare, bare_octets, each_weaker, is_bare}
-use Rattle.zone_words.proofs.Common.{AllByRecursion, IsDateTime, List, ap, arith, length, nat_tests, subst, sym, to_be_bytes, true, w32, ℕ, ◌%◌, ◌<◌, ◌∙◌, ◌≡◌}
+-- The date of a time is printed, and states its octets.
+use Rattle.zone_words.proofs.Common.{IsDateTime, List, ap, arith, length, subst, sym, to_be_bytes, w32, ℕ, ◌%◌, ◌<◌, ◌∙◌, ◌≡◌}
 use Rattle.zone_words.proofs.Printed.Fronts.{HaveCount}
 use Rattle.zone_words.specs.Kinds.Calendar.{seconds_since}
 use Rattle.zone_words.specs.Kinds.Time.{AreFourteenDigits, PrintsTime, StatesTime, as_date, shown_in}
@@ -27,8 +26,3 @@ time_printed_states text octets is =
     let short : seconds_since (shown_in text) < 4294967296 = is.short in
     let whole : seconds_since (shown_in text) ≡ seconds_since (shown_in text) % 4294967296 = omega arith in
     (seconds_since (shown_in text), (as_date is.digits is.date whole, is.value))
-
--- and stand outside quotes
-pub time_printed_stands : (text octets : List ℕ) → PrintsTime text octets → StandsBare text
-time_printed_stands text octets is =
-    bare_octets text (omega (arith, is.digits.count)) (each_weaker (λ c. is_bare c ≡ true) (λ c digit. grind (arith, nat_tests)) text is.digits.digits)

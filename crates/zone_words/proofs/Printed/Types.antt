@@ -6,16 +6,13 @@ use Rattle.std.specs.List.{Contains}
 use Rattle.std.specs.List.Sorted.{IsStrictlyIncreasing}
 use Rattle.zone_rdata.proofs.Items.GenericLaws.{decimal-is}
 use Rattle.zone_rdata.proofs.Octets.Sent.{frame_same}
-use Rattle.zone_rdata.proofs.Common.{StandsBare, bare_append}
-use Rattle.zone_rdata.proofs.Texts.Standing.{IsPrintedItem, are_bare, bare_decimal, bare_tested}
 use Rattle.zone_rdata.specs.Item.{bare, quoted}
 use Rattle.zone_rdata.specs.Text.{written_item}
 use Rattle.zone_rdata.specs.Words.{word_or_numbered}
 use Rattle.zone_words.proofs.Bitmaps.{type_at, window_type}
 use Rattle.zone_words.proofs.Bits.{ascend_more, below_more_windows, in_more, more_in, none_in}
-use Rattle.zone_words.proofs.Common.{AllByRecursion, AllByRecursion-append, AllZip, AscendFrom, HasBit, HaveType, IsKind, IsNumbered, IsTypeWord, IsWordAmong, IsWindow, List, NameType, NamesAType, NamesType, None, Option, RawItem, Some, StatesPerhapsTypes, Window, [], ap, append-nil, append_assoc, ap₂, arith, bit_at, by_mnemonic, by_number, cases_lt, codes, each_mnemonic, flat_map, flat_map-append, get_or, get_or_append_left, get_or_default, get_or_past, inl, inr, length, length-append, map, map-append, mnemonic_among, refl, recursion_from_All, registered_types, subst, suc, sym, take, window_octets, with_length, zero, ℕ, ◌%◌, ◌*◌, ◌++◌, ◌+◌, ◌-◌, ◌/◌, ◌<◌, ◌^◌, ◌↔◌, ◌∙◌, ◌∷◌, ◌≡◌, ◌≢◌, ◌≤◌, ◌⊎◌}
+use Rattle.zone_words.proofs.Common.{AllByRecursion, AllByRecursion-append, AllZip, AscendFrom, HasBit, HaveType, IsKind, IsNumbered, IsTypeWord, IsWordAmong, IsWindow, List, NameType, NamesAType, NamesType, None, Option, RawItem, Some, StatesPerhapsTypes, Window, [], ap, append-nil, append_assoc, ap₂, arith, bit_at, by_mnemonic, by_number, cases_lt, codes, flat_map, flat_map-append, get_or, get_or_append_left, get_or_default, get_or_past, inl, inr, length, map, map-append, mnemonic_among, refl, recursion_from_All, registered_types, subst, suc, sym, window_octets, with_length, zero, ℕ, ◌%◌, ◌*◌, ◌++◌, ◌+◌, ◌-◌, ◌/◌, ◌<◌, ◌↔◌, ◌∙◌, ◌∷◌, ◌≡◌, ◌≢◌, ◌≤◌}
 use Rattle.zone_words.proofs.TypeItems.{among_named, named_among}
-use Rattle.zone_words.specs.Kinds.Bitmap.{IsBitmapOf}
 use Rattle.zone_words.specs.Kinds.Types.{PrintsPerhapsTypes, PrintsTypes, StatesTypes, type_item}
 use Rattle.zone_words.specs.Kinds.Word.{type_word}
 use Rattle.zone_words.specs.Machine.PrintedTypes.{AscendWithin, HasNoKind, IsInOctet, PrintsBetween}
@@ -394,19 +391,3 @@ perhaps_types_printed_states items octets is =
 
 pub types_printed_states : (items : List RawItem) (octets : List ℕ) → PrintsTypes items octets → StatesTypes items octets
 types_printed_states items octets is = record { some = is.some; types = perhaps_types_printed_states items octets is.types }
-
--- ---- they stand outside quotes
-
-word_stands : (row : Option (List ℕ)) (n : ℕ) → mnemonic_among registered_types n ≡ row → n < 65536 → StandsBare (word_or_numbered row (codes "TYPE") n)
-word_stands None n e short = bare_append (codes "TYPE") (decimal n) (bare_tested (codes "TYPE") refl) (bare_decimal n (omega arith))
-word_stands (Some word) n e short = bare_tested word (each_mnemonic (λ _ mnemonic. are_bare mnemonic) registered_types refl n word e)
-
-pub type_word_stands : (n : ℕ) → IsKind n → StandsBare (type_word n)
-type_word_stands n kind = word_stands (mnemonic_among registered_types n) n refl kind.short
-
-each_stands : (types : List ℕ) → AllByRecursion IsKind types → AllByRecursion IsPrintedItem (map type_item types)
-each_stands [] kinds = tt
-each_stands (n ∷ types) kinds = (type_word_stands n kinds.0, each_stands types kinds.1)
-
-pub types_printed_stand : (items : List RawItem) (octets : List ℕ) → PrintsPerhapsTypes items octets → AllByRecursion IsPrintedItem items
-types_printed_stand items octets is = subst (AllByRecursion IsPrintedItem) (sym is.words) (each_stands is.types is.kinds)

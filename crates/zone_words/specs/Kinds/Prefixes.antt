@@ -1,7 +1,8 @@
 -- Prefixes of addresses (RFC 3123 4, 5).
-use Rattle.std.specs.Prelude.{◌≡◌, ◌≢◌, ℕ, ◌+◌, ◌-◌, ◌*◌, ◌<◌, ◌≤◌, List, [], ◌∷◌, ◌++◌, length, replicate, slice_index, codes, Bool, true, false}
+use Rattle.std.specs.Prelude.{◌≡◌, ◌≢◌, ℕ, ◌+◌, ◌-◌, ◌*◌, ◌<◌, ◌≤◌, List, [], ◌∷◌, ◌++◌, length, replicate, slice_index, codes, decimal, Bool, true, false}
 use Rattle.std.specs.Int.{w16, to_be_bytes}
-use Rattle.zone_rdata.specs.Address.{IsIpv4Address, IsIpv6Address}
+use Rattle.zone_name.specs.Common.{AreOctets}
+use Rattle.zone_rdata.specs.Address.{IsIpv4Address, IsIpv6Address, ipv4_text, ipv6_text}
 use Rattle.zone_rdata.specs.Item.{RawItem, bare, quoted}
 use Rattle.zone_rdata.specs.Number.{IsDecimal}
 use Rattle.zone_words.specs.Fault.{NothingStated}
@@ -58,8 +59,12 @@ pub record IsPrefixOctets (p : Prefix) (octets : List ℕ) : Type 0 where
   pub value : octets ≡ to_be_bytes w16 (family_of p.address)
       ++ (p.bits ∷ (sign p.negated + length part) ∷ part)
 
+-- the text spells a prefix of these octets
+abbrev pub IsAPrefix : List ℕ → List ℕ → Type 0
+IsAPrefix text octets = (p : Prefix) × (SpellsPrefix text p × IsPrefixOctets p octets)
+
 abbrev pub StatesPrefix : RawItem → List ℕ → Type 0
-StatesPrefix (bare text) octets = (p : Prefix) × (SpellsPrefix text p × IsPrefixOctets p octets)
+StatesPrefix (bare text) octets = IsAPrefix text octets
 StatesPrefix (quoted text) octets = ⊥
 
 -- any number of prefixes, one after another
@@ -72,5 +77,37 @@ StatesPrefixes (item ∷ items) octets =
 abbrev pub FailsPrefixes : List RawItem → WordsFault → Type 0
 FailsPrefixes items fault = NothingStated NoPrefix (StatesPrefixes items) fault
 
+-- an address has the octets of its family
+abbrev pub IsAddress : Address → Type 0
+IsAddress (Ipv4 octets) = (length octets ≡ 4) × AreOctets octets
+IsAddress (Ipv6 octets) = (length octets ≡ 16) × AreOctets octets
+
+-- the usual text of an address
+abbrev pub address_text : Address → List ℕ
+address_text (Ipv4 octets) = ipv4_text octets
+address_text (Ipv6 octets) = ipv6_text octets
+
+-- the usual text of a prefix, as `!1:192.168.38.0/28`, its numbers without leading zeros
+abbrev pub prefix_text : Prefix → List ℕ
+prefix_text p =
+    (mark p.negated ++ (decimal (family_of p.address) ++ 58 ∷ address_text p.address))
+    ++ 47 ∷ decimal p.bits
+
+-- how octets of one prefix are printed
+pub record PrintsPrefix (text octets : List ℕ) : Type 0 where
+  pub prefix : Prefix
+  pub address : IsAddress prefix.address
+  pub few : prefix.bits ≤ 8 * length (octets_of prefix.address)
+  pub printed : text ≡ prefix_text prefix
+  pub value : IsPrefixOctets prefix octets
+
+abbrev pub PrintsPrefixItem : RawItem → List ℕ → Type 0
+PrintsPrefixItem (bare text) octets = PrintsPrefix text octets
+PrintsPrefixItem (quoted text) octets = ⊥
+
+-- an item for each prefix, none for no octets
 abbrev pub PrintsPrefixes : List RawItem → List ℕ → Type 0
-PrintsPrefixes items octets = StatesPrefixes items octets
+PrintsPrefixes [] octets = octets ≡ []
+PrintsPrefixes (item ∷ items) octets =
+    (front back : List ℕ) × (PrintsPrefixItem item front × (PrintsPrefixes items back
+    × (octets ≡ front ++ back)))

@@ -1,15 +1,14 @@
 //! Prefixes of addresses (RFC 3123).
-ghost use Rattle.std.specs.Prelude.{◌≡◌, ◌*◌, ◌≤◌, length, map, IfErr, IfNone, IfSome, OnOk};
+ghost use Rattle.std.specs.Prelude.{◌≡◌, ◌-◌, ◌*◌, ◌<◌, ◌≤◌, ◌++◌, length, map, replicate, IfErr, IfNone, IfOk, IfSome, OnOk};
 ghost use Rattle.zone_name.specs.Common.{NothingIs};
 ghost use Rattle.zone_rdata.specs.Item.{raw};
 ghost use Rattle.zone_rdata.specs.Number.{IsDecimal};
 ghost use Rattle.zone_words.specs.DataItem.{raw_item};
 ghost use Rattle.zone_words.specs.Fault.{AppendsStated, IfFault};
-ghost use Rattle.zone_words.specs.Kinds.Prefixes.{FailsPrefixes, IsAddressText, IsPrefixOctets, SpellsPrefix, StatesPrefixes, family_of, octets_of, sign};
-ghost use Rattle.zone_words.specs.Machine.Prefixes.{IsAfterMark, IsItemPrefix};
-ghost use Rattle.std.specs.Prelude.{◌<◌, IfOk, length};
+ghost use Rattle.zone_words.specs.Kinds.Prefixes.{FailsPrefixes, IsAPrefix, IsAddressText, IsPrefixOctets, PrintsPrefix, PrintsPrefixes, SpellsPrefix, StatesPrefixes, address_text, family_of, mark, octets_of, prefix_text, sign};
+ghost use Rattle.zone_words.specs.Machine.Prefixes.{BeginsWithPrefix, IsAddressIn, IsAfterMark, IsItemPrefix};
+ghost use Rattle.zone_words.specs.Printed.{IfNoData, NoFront, NoItems, PrintsAll, PrintsFront};
 
-use super::address::{print_ipv4, print_ipv6};
 use super::bitmap::trimmed_len;
 use super::number::print_decimal;
 use crate::cut::{cut_at_first, cut_at_last};
@@ -18,7 +17,7 @@ use crate::fault::{WordsFailing, WordsFault};
 use crate::taking::{take, take_u8, take_u16};
 use crate::unprinted::Unprinted;
 use std::alloc::AllocError;
-use zone_rdata::{Item, decimal_of, ipv4_octets_of, ipv6_octets_of};
+use zone_rdata::{Item, decimal_of, ipv4_octets_of, ipv6_octets_of, push_ipv4, push_ipv6};
 
 /// An address of one of the two families that have texts (RFC 3123 4).
 #[derive(Clone, Copy)]
@@ -172,48 +171,123 @@ fn bits_of(text: &[u8], address: Address) -> Option<u8>
     Some(bits as u8)
 }
 
-/// Appends the address of a family whose last octets, which are zero, may be left out.
-fn print_address(family: u16, octets: &[u8], out: &mut Vec<u8>) -> Result<(), Unprinted> {
-    let len = match family {
-        1 => 4,
-        2 => 16,
-        _ => return Err(Unprinted::NoData),
-    };
-    if octets.len() > len {
-        return Err(Unprinted::NoData);
-    }
-    let mut whole = [0; 16];
-    let (front, _) = whole.split_at_mut(octets.len());
-    front.copy_from_slice(octets);
-    if family == 1 {
-        print_ipv4(&whole, out)?;
-    } else {
-        print_ipv6(&whole, out)?;
-    }
-    Ok(())
-}
-
-/// Appends the prefix at the front (RFC 3123 4, 5), a blank before it, and gives what is left.
-fn print_prefix<'o>(octets: &'o [u8], out: &mut Vec<u8>) -> Result<&'o [u8], Unprinted>
-    ensures { IfOk result (λ rest. length rest.now < length octets.now) }
+/// The prefix at the front (RFC 3123 4), and what is left.
+///
+/// # Errors
+///
+/// `NoData` where no item states one there: the octets end before, the family is another, there are
+/// more octets than the address has or a zero ends them, or the prefix is longer than the address.
+fn take_prefix(octets: &[u8]) -> Result<(Prefix, &[u8]), Unprinted>
+    ensures left { IfOk result (λ parts. length parts.1.now < length octets.now) }
+    ensures front { IfOk result (λ parts. BeginsWithPrefix octets.now parts.0 parts.1.now) }
+    ensures none { IfErr result (IfNoData (NoFront IsAPrefix octets.now)) }
 {
     let (family, rest) = take_u16(octets)?;
-    let (length, rest) = take_u8(rest)?;
+    let (bits, rest) = take_u8(rest)?;
     let (count, rest) = take_u8(rest)?;
-    let (address, rest) = take(rest, usize::from(count % 128))?;
-    out.extend_from_slice(if count < 128 { b" " } else { b" !" })?;
-    print_decimal(u32::from(family), out)?;
+    let (part, rest) = take(rest, usize::from(count % 128))?;
+    let Some(address) = address_in(family, part) else {
+        return Err(Unprinted::NoData);
+    };
+    if usize::from(bits) > 8 * address.octets().len() {
+        return Err(Unprinted::NoData);
+    }
+    let prefix = Prefix {
+        negated: count >= 128,
+        address,
+        bits,
+    };
+    Ok((prefix, rest))
+}
+
+/// The address of a family, of which the zeros that end it are left out (RFC 3123 4). `None`: the
+/// octets are those of none.
+fn address_in(family: u16, part: &[u8]) -> Option<Address>
+    ensures found { IfSome result (IsAddressIn family part.now) }
+    ensures none { IfNone result (NothingIs (IsAddressIn family part.now)) }
+{
+    if trimmed_len(part) < part.len() {
+        return None;
+    }
+    match family {
+        1 => Some(Address::Ipv4(filled(part)?)),
+        2 => Some(Address::Ipv6(filled(part)?)),
+        _ => None,
+    }
+}
+
+/// Octets with zeros after them, so many in all. `None`: they are more.
+fn filled<const N: usize>(part: &[u8]) -> Option<[u8; N]>
+    ensures some { IfSome result (λ whole. whole
+        ≡ part.now ++ replicate (N - length part.now) 0) }
+    ensures none { IfNone result (N < length part.now) }
+{
+    if part.len() > N {
+        return None;
+    }
+    let mut whole = [0; N];
+    whole[..part.len()].copy_from_slice(part);
+    Some(whole)
+}
+
+/// Appends a prefix as a text (RFC 3123 5).
+fn push_prefix(prefix: Prefix, out: &mut Vec<u8>) -> Result<(), AllocError>
+    ensures { OnOk result (out.new.items ≡ out.old.items ++ prefix_text prefix) }
+{
+    out.extend_from_slice(mark(prefix.negated))?;
+    print_decimal(u32::from(prefix.address.family()), out)?;
     out.extend_from_slice(b":")?;
-    print_address(family, address, out)?;
+    push_address(prefix.address, out)?;
     out.extend_from_slice(b"/")?;
-    print_decimal(u32::from(length), out)?;
+    print_decimal(u32::from(prefix.bits), out)
+}
+
+/// What stands before a prefix that is left out of a greater one.
+fn mark(negated: bool) -> &'static [u8]
+    ensures { result.now ≡ mark negated }
+{
+    if negated { b"!" } else { b"" }
+}
+
+/// Appends an address.
+fn push_address(address: Address, out: &mut Vec<u8>) -> Result<(), AllocError>
+    ensures { OnOk result (out.new.items ≡ out.old.items ++ address_text address) }
+{
+    match address {
+        Address::Ipv4(octets) => push_ipv4(&octets, out),
+        Address::Ipv6(octets) => push_ipv6(&octets, out),
+    }
+}
+
+/// Appends the prefix at the front (RFC 3123 4, 5), and gives what is left.
+///
+/// # Errors
+///
+/// `NoData` where no item states one there, and `OutOfMemory`. `out` may have got some of it.
+fn print_prefix<'o>(octets: &'o [u8], out: &mut Vec<u8>) -> Result<&'o [u8], Unprinted>
+    ensures left { IfOk result (λ rest. length rest.now < length octets.now) }
+    ensures printed { IfOk result (λ rest.
+        PrintsFront PrintsPrefix IsAPrefix octets.now rest.now out.old.items out.new.items) }
+    ensures none { IfErr result (IfNoData (NoFront IsAPrefix octets.now)) }
+{
+    let (prefix, rest) = take_prefix(octets)?;
+    push_prefix(prefix, out)?;
     Ok(rest)
 }
 
-/// Appends prefixes, a blank before each.
-pub(crate) fn print_prefixes(octets: &[u8], out: &mut Vec<u8>) -> Result<(), Unprinted> {
+/// Appends prefixes, any number of them, a blank before each.
+///
+/// # Errors
+///
+/// `NoData` where no items state the octets, and `OutOfMemory`. `out` may have got some of them.
+pub(crate) fn print_prefixes(octets: &[u8], out: &mut Vec<u8>) -> Result<(), Unprinted>
+    ensures printed { OnOk result
+        (PrintsAll PrintsPrefixes octets.now out.old.items out.new.items) }
+    ensures none { IfErr result (IfNoData (NoItems StatesPrefixes octets.now)) }
+{
     let mut rest = octets;
     while !rest.is_empty() {
+        out.extend_from_slice(b" ")?;
         rest = print_prefix(rest, out)?;
     }
     Ok(())

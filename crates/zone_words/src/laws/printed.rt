@@ -1,7 +1,10 @@
-//! Laws of what is printed, over the definitions alone: the text of octets states these octets.
+//! Laws of what is printed, over the definitions alone: the text of octets states these octets, and
+//! stands on a line as it is.
+ghost use Rattle.std.specs.List.{AllByRecursion};
 ghost use Rattle.std.specs.Prelude.{List, ℕ};
 ghost use Rattle.zone_name.specs.Common.{Labels};
 ghost use Rattle.zone_rdata.specs.Item.{RawItem};
+ghost use Rattle.zone_words.specs.DataItem.{TouchingItem};
 ghost use Rattle.zone_words.specs.FirstItem.{FirstStates};
 ghost use Rattle.zone_words.specs.Kinds.Address.{PrintsIpv4, PrintsIpv6, StatesIpv4, StatesIpv6};
 ghost use Rattle.zone_words.specs.Kinds.Base64.{PrintsBase64, StatesBase64};
@@ -11,6 +14,7 @@ ghost use Rattle.zone_words.specs.Kinds.Location.{PrintsLocation, StatesLocation
 ghost use Rattle.zone_words.specs.Kinds.Name.{PrintsName, StatesName};
 ghost use Rattle.zone_words.specs.Kinds.NodeId.{PrintsNodeId, StatesNodeId};
 ghost use Rattle.zone_words.specs.Kinds.Number.{PrintsU16, PrintsU32, PrintsU8, StatesU16, StatesU32, StatesU8};
+ghost use Rattle.zone_words.specs.Kinds.Prefixes.{PrintsPrefixes, StatesPrefixes};
 ghost use Rattle.zone_words.specs.Kinds.Salt.{PrintsSalt, StatesSalt};
 ghost use Rattle.zone_words.specs.Kinds.Strings.{PrintsStrings, StatesStrings};
 ghost use Rattle.zone_words.specs.Kinds.Tag.{PrintsTag, StatesTag};
@@ -18,6 +22,11 @@ ghost use Rattle.zone_words.specs.Kinds.Time.{PrintsTime, StatesTime};
 ghost use Rattle.zone_words.specs.Kinds.Types.{PrintsPerhapsTypes, PrintsTypes, StatesPerhapsTypes, StatesTypes};
 ghost use Rattle.zone_words.specs.Kinds.Value.{PrintsValue, StatesQuotedValue};
 ghost use Rattle.zone_words.specs.Kinds.Word.{PrintsAlgorithm, PrintsCertificateType, PrintsType, StatesAlgorithm, StatesCertificateType, StatesType};
+ghost use Rattle.zone_words.specs.Parameters.Printed.{written_touching};
+ghost use Rattle.zone_words.specs.Printed.{ArePrinted};
+ghost use Rattle.zone_words.specs.PrintedData.{PrintParts};
+ghost use Rattle.zone_words.specs.Table.{NamedField};
+ghost use Rattle.zone_words.specs.WordsLine.{StandsBehind};
 
 /// The text that is printed for the octets of a kind states them, a name under every origin.
 pub fn printed_texts_state_their_octets()
@@ -51,8 +60,19 @@ pub fn printed_items_state_their_octets()
         → StatesTypes items octets }
     ensures perhaps_types { (items : List RawItem) (octets : List ℕ) → PrintsPerhapsTypes items octets
         → StatesPerhapsTypes items octets }
+    ensures prefixes { (items : List RawItem) (octets : List ℕ) → PrintsPrefixes items octets
+        → StatesPrefixes items octets }
     ensures location { (items : List RawItem) (octets : List ℕ) → PrintsLocation items octets
         → StatesLocation items octets }
     ensures value { (items : List RawItem) (octets : List ℕ) → PrintsValue items octets
         → FirstStates StatesQuotedValue items octets }
+{}
+
+/// The items that are printed for the fields of data stand on a line as they are, and a terminal
+/// shows each octet of what is written.
+pub fn printed_words_stand_on_a_line()
+    ensures stand { (fields : List NamedField) (items : List TouchingItem) (parts : List (List ℕ))
+        → PrintParts fields items parts → AllByRecursion StandsBehind items }
+    ensures printed { (fields : List NamedField) (items : List TouchingItem) (parts : List (List ℕ))
+        → PrintParts fields items parts → ArePrinted (written_touching items) }
 {}

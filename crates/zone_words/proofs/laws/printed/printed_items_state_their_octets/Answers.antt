@@ -1,4 +1,5 @@
 use Rattle.zone_words.proofs.Printed.Location.{location_printed_states}
+use Rattle.zone_words.proofs.Printed.Prefixes.{prefixes_printed_state}
 use Rattle.zone_words.proofs.Printed.ReadAgain.{base64_printed_states, hex_printed_states, strings_printed_states}
 use Rattle.zone_words.proofs.Printed.ReadValues.{value_printed_states}
 use Rattle.zone_words.proofs.Printed.Types.{perhaps_types_printed_states, types_printed_states}
@@ -18,6 +19,9 @@ returns-clause-types c = types_printed_states
 
 pub returns-clause-perhaps_types : goal.returns-clause-perhaps_types
 returns-clause-perhaps_types c = perhaps_types_printed_states
+
+pub returns-clause-prefixes : goal.returns-clause-prefixes
+returns-clause-prefixes c = prefixes_printed_state
 
 pub returns-clause-location : goal.returns-clause-location
 returns-clause-location c = location_printed_states

@@ -1,0 +1,112 @@
+-- Numbers, and words that stand for numbers, are stated or have a fault.
+use Rattle.std.proofs.lemmas.List.{length-map}
+use Rattle.std.proofs.lemmas.List.{drop_at, take_at}
+use Rattle.std.specs.Int.{byte_len}
+use Rattle.zone_name.specs.Common.{EitherIs}
+use Rattle.zone_rdata.proofs.Choices.{Choice, Decided, choice_as}
+use Rattle.zone_rdata.proofs.Items.GenericLaws.{decimal_or_not}
+use Rattle.zone_rdata.proofs.Words.OneWord.{same_or_not}
+use Rattle.zone_rdata.proofs.Words.Tables.{no_row, row_is}
+use Rattle.zone_rdata.specs.Table.{ascends}
+use Rattle.zone_rdata.specs.Words.{is_meta}
+use Rattle.zone_words.proofs.Common.{Bool, IsAlgorithm, IsDecimal, IsInOctets, IsKind, IsMnemonic, IsNumberOrMnemonic, IsNumbered, IsTypeWord, IsWordAmong, List, Named, None, NumberFails, Option, Some, Width, [], algorithms, ap, arith, by_mnemonic, by_number, bytes_eq, cases_lt, certificate_types, codes, drop, false, false≢true, find, folded_label, further_algorithms, inl, inr, length, refl, registered_types, subst, sym, take, take-append-drop, to_be_bytes, true, w16, ℕ, ◌<◌, ◌^◌, ◌∙◌, ◌≡◌, ◌≤◌, ◌⊎◌}
+use Rattle.zone_words.proofs.TypeWords.{word_of_type_once}
+use Rattle.zone_words.specs.Kinds.Gateway.{FailsUpTo, StatesUpTo, no_digits, too_great}
+use Rattle.zone_words.specs.Kinds.Number.{no_number, too_large}
+use Rattle.zone_words.specs.Kinds.Word.{FailsType, StatesType}
+use Rattle.zone_words.specs.declared.fault.WordsFault.TheVariants.{NotANumber, NotAType, TooLarge}
+
+-- ---- numbers of a width, and up to a bound
+
+in_octets_by : (Stated : ℕ → Type 0) (w : Width) (n : ℕ) → Stated n → (n < 256 ^ byte_len w) ⊎ (256 ^ byte_len w ≤ n) → EitherIs (IsInOctets Stated w) (NumberFails Stated w)
+in_octets_by Stated w n is (inl fits) = inl (to_be_bytes w n, record { number = n; stated = is; fits = fits; value = refl })
+in_octets_by Stated w n is (inr over) = inr (TooLarge, too_large n is (λ fits. omega (arith, fits)))
+
+pub in_octets_decided : (Stated : ℕ → Type 0) (w : Width) → Choice Stated → EitherIs (IsInOctets Stated w) (NumberFails Stated w)
+in_octets_decided Stated w (inr none) = inr (NotANumber, no_number none)
+in_octets_decided Stated w (inl found) = in_octets_by Stated w found.0 found.1 (cases_lt found.0 (256 ^ byte_len w))
+
+pub up_to_decided : (most : ℕ) (octets_of : ℕ → List ℕ) (text : List ℕ) → EitherIs (StatesUpTo most octets_of text) (FailsUpTo most text)
+up_to_decided most octets_of text = elim (decimal_or_not text) [
+  | inr none ↦ inr (NotANumber, no_digits none)
+  | inl found ↦ elim (cases_lt most found.0) [
+    | inl over ↦ inr (TooLarge, too_great found.0 found.1 over)
+    | inr few ↦ inl (octets_of found.0, record { number = found.0; stated = found.1; few = few; value = refl })
+  ]
+]
+
+-- ---- a mnemonic
+
+mnemonic_by : (rows : List Named) → ascends rows ≡ true → (word : List ℕ) (found : Option Named) → find (λ row. bytes_eq (folded_label word) (folded_label row.mnemonic)) rows ≡ found → Choice (IsMnemonic rows word)
+mnemonic_by rows up word None e = inr (no_row rows word e)
+mnemonic_by rows up word (Some row) e = inl (row.number, row_is rows up word row e)
+
+mnemonic_or_not : (rows : List Named) → ascends rows ≡ true → (word : List ℕ) → Choice (IsMnemonic rows word)
+mnemonic_or_not rows up word = mnemonic_by rows up word (find (λ row. bytes_eq (folded_label word) (folded_label row.mnemonic)) rows) refl
+
+-- ---- a name and a number right after it
+
+front_length : (name word : List ℕ) (n : ℕ) (x : IsNumbered name word n) → length x.front ≡ length name
+front_length name word n x = grind (arith, length-map)
+
+front_is : (name word : List ℕ) (n : ℕ) (x : IsNumbered name word n) → take (length name) word ≡ x.front
+front_is name word n x = cc (take_at x.front x.digits (length name) (front_length name word n x))
+
+digits_are : (name word : List ℕ) (n : ℕ) (x : IsNumbered name word n) → drop (length name) word ≡ x.digits
+digits_are name word n x = cc (drop_at x.front x.digits (length name) (front_length name word n x))
+
+numbered_or_not : (name word : List ℕ) → Choice (IsNumbered name word)
+numbered_or_not name word =
+    let front = take (length name) word in
+    let digits = drop (length name) word in
+    elim (same_or_not (folded_label front) (folded_label name)) [
+      | inr other ↦ inr (λ n x. other (ap folded_label (front_is name word n x) ∙ x.named))
+      | inl same ↦ choice_as (λ n. n) (λ n h. record { front = front; digits = digits; parts = sym (take-append-drop (length name) word); named = same; number = h }) (λ none n x. none n (subst (λ t. IsDecimal t n) (sym (digits_are name word n x)) x.number)) (decimal_or_not digits)
+    ]
+
+-- ---- words
+
+word_by : (rows : List Named) (name word : List ℕ) → Choice (IsMnemonic rows word) → Choice (IsNumbered name word) → Choice (IsWordAmong rows name word)
+word_by rows name word (inl found) numbered = inl (found.0, by_mnemonic found.1)
+word_by rows name word (inr none) (inl found) = inl (found.0, by_number found.1)
+word_by rows name word (inr none) (inr none') = inr (λ n h. elim h [ by_mnemonic x ↦ none n x | by_number x ↦ none' n x ])
+
+word_or_not : (rows : List Named) (name : List ℕ) → ascends rows ≡ true → (word : List ℕ) → Choice (IsWordAmong rows name word)
+word_or_not rows name up word = word_by rows name word (mnemonic_or_not rows up word) (numbered_or_not name word)
+
+pub certificate_type_or_not : (word : List ℕ) → Choice (IsNumberOrMnemonic certificate_types word)
+certificate_type_or_not = word_or_not certificate_types [] refl
+
+algorithm_by : (word : List ℕ) → Choice (IsNumberOrMnemonic algorithms word) → Choice (IsMnemonic further_algorithms word) → Choice (IsAlgorithm word)
+algorithm_by word (inl found) further = inl (found.0, inl found.1)
+algorithm_by word (inr none) (inl found) = inl (found.0, inr found.1)
+algorithm_by word (inr none) (inr none') = inr (λ n h. elim h [ inl x ↦ none n x | inr x ↦ none' n x ])
+
+pub algorithm_or_not : (word : List ℕ) → Choice (IsAlgorithm word)
+algorithm_or_not word = algorithm_by word (word_or_not algorithms [] refl word) (mnemonic_or_not further_algorithms refl word)
+
+-- ---- types
+
+kind_by : (n : ℕ) (meta : Bool) → is_meta n ≡ meta → (n < 65536) ⊎ (65536 ≤ n) → Decided (IsKind n)
+kind_by n true e size = inr (λ kind. false≢true (sym kind.stored ∙ e))
+kind_by n false e (inl short) = inl (record { short = short; stored = e })
+kind_by n false e (inr over) = inr (λ kind. omega (arith, kind.short))
+
+kind_or_not : (n : ℕ) → Decided (IsKind n)
+kind_or_not n = kind_by n (is_meta n) refl (cases_lt n 65536)
+
+type_by : (word : List ℕ) (n : ℕ) → IsWordAmong registered_types (codes "TYPE") word n → Decided (IsKind n) → Choice (IsTypeWord word)
+type_by word n named (inl kind) = inl (n, record { named = named; kind = kind })
+type_by word n named (inr none) = inr (λ m is. none (subst IsKind (word_of_type_once word m n is.named named) is.kind))
+
+pub type_or_not : (word : List ℕ) → Choice (IsTypeWord word)
+type_or_not word = elim (word_or_not registered_types (codes "TYPE") refl word) [
+  | inr none ↦ inr (λ n is. none n is.named)
+  | inl found ↦ type_by word found.0 found.1 (kind_or_not found.0)
+]
+
+pub type_decided : (word : List ℕ) → EitherIs (StatesType word) (FailsType word)
+type_decided word = elim (type_or_not word) [
+  | inr none ↦ inr (NotAType, (refl, none))
+  | inl found ↦ inl (to_be_bytes w16 found.0, record { number = found.0; stated = found.1; fits = (let short = found.1.kind.short in omega arith); value = refl })
+]
