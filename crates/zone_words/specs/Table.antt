@@ -269,6 +269,27 @@ type_registry =
     ∷ name_only 32769 (codes "DLV")
     ∷ []
 
+-- their numbers and mnemonics
+abbrev pub named : RegisteredType → Named
+named (in_words f) = record { number = f.number; mnemonic = f.mnemonic }
+named (name_only number mnemonic) = record { number = number; mnemonic = mnemonic }
+
+abbrev pub registered_types : List Named
+registered_types = map named type_registry
+
+-- the further types among them
+abbrev pub further_in : RegisteredType → Option FurtherType
+further_in (in_words f) = Some f
+further_in (name_only number mnemonic) = None
+
+abbrev pub further_types : List FurtherType
+further_types = filter_map further_in type_registry
+
+-- the numbers and mnemonics of these
+abbrev pub further_names : List Named
+further_names =
+    map (λ (f : FurtherType). record { number = f.number; mnemonic = f.mnemonic }) further_types
+
 -- the rows of the code are these
 abbrev pub field_of : Field → NamedField
 field_of f = field f.0.now f.1
@@ -291,26 +312,6 @@ further_of row =
 abbrev pub registered_of : coded_types.RegisteredType → RegisteredType
 registered_of (coded_type.InWords row) = in_words (further_of row)
 registered_of (coded_type.NameOnly number mnemonic) = name_only number mnemonic.now
-
--- their numbers and mnemonics
-abbrev pub named : RegisteredType → Named
-named (in_words f) = record { number = f.number; mnemonic = f.mnemonic }
-named (name_only number mnemonic) = record { number = number; mnemonic = mnemonic }
-
-abbrev pub registered_types : List Named
-registered_types = map named type_registry
-
--- the further types
-abbrev pub further_in : RegisteredType → Option FurtherType
-further_in (in_words f) = Some f
-further_in (name_only number mnemonic) = None
-
-abbrev pub further_types : List FurtherType
-further_types = filter_map further_in type_registry
-
-abbrev pub further_names : List Named
-further_names =
-    map (λ (f : FurtherType). record { number = f.number; mnemonic = f.mnemonic }) further_types
 
 -- the further type of a number
 abbrev pub further_type : ℕ → Option FurtherType

@@ -1,5 +1,5 @@
-//! The registered types, a row each, their numbers ascending: the further types, with the section of
-//! the RFC that gives the words of each, and the rest, which stand in data alone.
+//! The registered types, a row each, their numbers ascending: the further types, with the section
+//! of the RFC that gives the words of each, and the rest, which stand in data alone.
 ghost use Rattle.std.specs.List.{find};
 ghost use Rattle.std.specs.Prelude.{◌≡◌, ◌==◌, IfSome, IfNone, codes, filter_map, map, option_copied, true};
 ghost use Rattle.std.specs.Option.{option_map};
@@ -19,6 +19,7 @@ use crate::field::FieldKind::{
     QuotedValue, Strings, Types, Value,
 };
 use crate::fields::Fields::{self, Amtrelay, Hip, Ipseckey, Same};
+use RegisteredType::{InWords, NameOnly};
 use zone_rdata::{Row, number_of_word, row_of};
 
 /// A type whose data is read in words here.
@@ -40,8 +41,6 @@ pub(crate) enum RegisteredType {
     /// One that stands in data alone: its number and its mnemonic, in upper case.
     NameOnly(u16, &'static str),
 }
-
-use RegisteredType::{InWords, NameOnly};
 
 impl Row for RegisteredType {
     ghost names = { λ row. named (registered_of row) };
