@@ -24,6 +24,7 @@ mod PassedFaults
 pub mod Printed
 pub mod PrintedStanding
 mod Numbers
+pub mod TypeRegistry
 mod TypeWords
 mod MnemonicOf
 mod StringItems
