@@ -15,6 +15,9 @@ mod KeptEntries
 pub mod RewrittenCut
 mod SameStatements
 pub mod RewrittenAgain
+mod JoinedKinds
+mod JoinedRefused
+mod JoinedReading
 mod Base32Digits
 mod Base64Texts
 mod HexDigits

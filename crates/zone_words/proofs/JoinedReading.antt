@@ -1,0 +1,1 @@
+-- An entry that is written anew states the entry's record.

@@ -1,0 +1,81 @@
+-- A master file with words of further types, as the reader of plain master files reads what is
+-- written for it (RFC 1035 5.1, RFC 3597 5).
+use Rattle.std.specs.Prelude.{◌≡◌, ◌↔◌, ℕ, zero, ◌+◌, List, [], ◌∷◌, count_by, ◌==◌}
+use Rattle.std.specs.List.{flat_map}
+use Rattle.zone_name.specs.Common.{Labels}
+use Rattle.zone_rdata.specs.Generic.{StatesGeneric}
+use Rattle.zone_rdata.specs.Record.{Record, IsRecord}
+use Rattle.zone_rdata.specs.declared.fault.Place.TheVariants.{Line}
+use Rattle.zone_rdata.specs.declared.record.Placed.{Placed}
+use Rattle.zone_text.specs.Entries.{Entry, and_last, cut_from, entry_of, item_of}
+use Rattle.zone_text.specs.Inherited.{latest, IsOrigin, IsLastOwner, IsOwner, HasClass, class_word, default_ttl_text, ttl_text}
+use Rattle.zone_text.specs.Records.{IsLastMinimum, HasTtl, EntryStates, StatesNothing}
+use Rattle.zone_text.specs.Statements.{statement_of}
+use Rattle.zone_text.specs.Tokens.{Token, text, Cuts}
+use Rattle.zone_words.specs.Entry.{TokensSay}
+use Rattle.zone_words.specs.Written.{Anew, renamed, in_octets}
+
+-- entries, the latest first, that leave the same to an entry after them: the origin, the last
+-- owner, the class, the TTLs and the MINIMUM
+pub record LeaveAlike (origin : Labels) (before after : List Entry) : Type 0 where
+  pub under : (name : Labels) → IsOrigin origin before name ↔ IsOrigin origin after name
+  pub owner : (name : Labels) → IsLastOwner origin before name ↔ IsLastOwner origin after name
+  pub class : latest class_word before ≡ latest class_word after
+  pub default_ttl : latest default_ttl_text before ≡ latest default_ttl_text after
+  pub ttl : latest ttl_text before ≡ latest ttl_text after
+  pub minimum : (seconds : ℕ)
+      → IsLastMinimum origin before seconds ↔ IsLastMinimum origin after seconds
+
+-- the record has the owner, the class and the TTL of an entry, its own or inherited ones, and can
+-- stand in a zone
+pub record HasItsParts (origin : Labels) (before : List Entry) (entry : Entry) (r : Record)
+    : Type 0 where
+  pub owner : IsOwner origin before (statement_of entry) r.owner
+  pub class : HasClass before entry r.class
+  pub ttl : HasTtl origin before entry r.ttl
+  pub fits : IsRecord r
+
+-- it has the type that an entry says anew, and as its data the octets that the entry's words state,
+-- or those of the generic form in the tokens after the type
+abbrev pub HasItsData : Anew → List Token → Record → Type 0
+HasItsData (renamed number) back r =
+    (r.kind ≡ number) × StatesGeneric (flat_map item_of back) r.octets
+HasItsData (in_octets number octets) back r = (r.kind ≡ number) × (r.octets ≡ octets)
+
+-- The record that an entry of a file states, under the origin with the letters of the file and as
+-- the reader has it: the one of a further type that it says anew, or else the one that it states by
+-- itself.
+pub data StatesJoined (cased origin : Labels) (before : List Entry) (line : ℕ)
+    (tokens : List Token) (r : Record) : Type 0 where
+  of_further : (front back : List Token) (it : Anew) → TokensSay cased before line tokens front back it
+      → HasItsParts origin before (entry_of line tokens) r → HasItsData it back r
+      → StatesJoined cased origin before line tokens r
+  by_itself : ((front back : List Token) (it : Anew)
+      → TokensSay cased before line tokens front back it → ⊥)
+      → EntryStates origin before (entry_of line tokens) r
+      → StatesJoined cased origin before line tokens r
+
+-- an entry states nothing or the first of the records, at its line; the others follow
+pub data JoinedFirst (cased origin : Labels) (before : List Entry) (line : ℕ) (tokens : List Token)
+    (Others : List Placed → Type 0) (placed : List Placed) : Type 0 where
+  states_none : StatesNothing origin before (statement_of (entry_of line tokens)) → Others placed
+      → JoinedFirst cased origin before line tokens Others placed
+  states_one : (p : Placed) (others : List Placed) → StatesJoined cased origin before line tokens p.rr
+      → p.place ≡ Line line → placed ≡ p ∷ others → Others others
+      → JoinedFirst cased origin before line tokens Others placed
+
+-- entry after entry, from a line on
+abbrev pub EachJoined : Labels → Labels → List Entry → ℕ → List (List Token) → List Placed → Type 0
+EachJoined cased origin before line [] placed = placed ≡ []
+EachJoined cased origin before line (tokens ∷ entries) placed =
+    JoinedFirst cased origin before line tokens
+    (EachJoined cased origin (entry_of line tokens ∷ before)
+    (line + count_by (λ c. c == 10) (text tokens)) entries) placed
+
+-- the text of a file states these records in this order, each at its line, some of them in words
+pub record FileStatesJoined (cased origin : Labels) (octets : List ℕ) (placed : List Placed)
+    : Type 0 where
+  pub tokens : List Token
+  pub cut : Cuts octets tokens
+  pub each : EachJoined cased origin [] 1
+      (and_last (cut_from zero tokens).ended (cut_from zero tokens).open_tokens) placed

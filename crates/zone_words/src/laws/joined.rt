@@ -1,0 +1,38 @@
+//! Laws of what is written anew as the reader of plain master files reads it.
+ghost use Rattle.std.specs.Prelude.{◌≡◌, ◌↔◌, ◌++◌, ◌∷◌, List, [], ℕ};
+ghost use Rattle.std.specs.List.{AllByRecursion};
+ghost use Rattle.zone_name.specs.Common.{Labels};
+ghost use Rattle.zone_rdata.specs.Record.{Record};
+ghost use Rattle.zone_rdata.specs.declared.record.Placed.{Placed};
+ghost use Rattle.zone_text.specs.Entries.{Entry, entry_of};
+ghost use Rattle.zone_text.specs.File.{FileStates};
+ghost use Rattle.zone_text.specs.Records.{EntryStates, StatesNothing};
+ghost use Rattle.zone_text.specs.Statements.{statement_of};
+ghost use Rattle.zone_text.specs.Tokens.{IsToken, Token};
+ghost use Rattle.zone_words.specs.Entry.{IsRewriting, TokensFail, TokensSay};
+ghost use Rattle.zone_words.specs.Joined.{FileStatesJoined, HasItsData, HasItsParts, LeaveAlike};
+ghost use Rattle.zone_words.specs.Rewriting.{Refused};
+ghost use Rattle.zone_words.specs.Written.{Anew, written};
+
+/// An entry that is written anew states, after entries that leave the same, the record that has the
+/// owner, the class and the TTL of the entry, with the type and the data that the entry says anew,
+/// and no other.
+pub fn what_is_written_anew_is_read()
+    ensures { (cased origin : Labels) (before after : List Entry) (line : ℕ)
+        (tokens front back : List Token) (it : Anew) (r : Record)
+        → AllByRecursion IsToken tokens → LeaveAlike origin before after
+        → TokensSay cased before line tokens front back it
+        → EntryStates origin after (entry_of line (front ++ written it back)) r
+        ↔ (HasItsParts origin before (entry_of line tokens) r × HasItsData it back r) }
+{}
+
+/// An entry that is refused states neither nothing nor a record for the reader.
+pub fn a_refused_entry_is_not_read()
+    ensures record { (cased origin : Labels) (before after : List Entry) (line : ℕ)
+        (tokens : List Token) (it : Refused) (r : Record)
+        → TokensFail cased before line tokens it
+        → EntryStates origin after (entry_of line tokens) r → ⊥ }
+    ensures nothing { (cased origin : Labels) (before after : List Entry) (line : ℕ)
+        (tokens : List Token) (it : Refused) → TokensFail cased before line tokens it
+        → StatesNothing origin after (statement_of (entry_of line tokens)) → ⊥ }
+{}
