@@ -59,11 +59,11 @@ module _ (further : FurtherType) (row : further_type further.number ≡ Some fur
       grind (arith, nat_tests)
 
   -- `TYPE` and the number is its word
-  pub type_kind : IsKindWord (codes "TYPE" ++ decimal further.number) further.number
-  type_kind = by_number (record {
+  pub type_numbered : IsNumbered (codes "TYPE") (codes "TYPE" ++ decimal further.number) further.number
+  type_numbered = record {
     front = codes "TYPE";
     digits = decimal further.number;
     parts = refl;
     named = refl;
     number = decimal-is further.number (let s = short_number in omega arith);
-  })
+  }

@@ -26,10 +26,12 @@ pub record LeaveAlike (origin : Labels) (before after : List Entry) : Type 0 whe
   pub minimum : (seconds : ℕ)
       → IsLastMinimum origin before seconds ↔ IsLastMinimum origin after seconds
 
--- the record has the owner, the class and the TTL of an entry, its own or inherited ones, and can
--- stand in a zone
+-- the record has the owner, the class and the TTL of an entry, its own or inherited ones, at which
+-- an origin holds, and can stand in a zone
 pub record HasItsParts (origin : Labels) (before : List Entry) (entry : Entry) (r : Record)
     : Type 0 where
+  pub above : Labels
+  pub under : IsOrigin origin before above
   pub owner : IsOwner origin before (statement_of entry) r.owner
   pub class : HasClass before entry r.class
   pub ttl : HasTtl origin before entry r.ttl
