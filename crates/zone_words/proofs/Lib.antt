@@ -18,6 +18,8 @@ pub mod RewrittenAgain
 mod JoinedKinds
 mod JoinedRefused
 mod JoinedReading
+mod JoinedEntries
+mod JoinedFiles
 mod Base32Digits
 mod Base64Texts
 mod HexDigits

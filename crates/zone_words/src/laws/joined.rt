@@ -36,3 +36,18 @@ pub fn a_refused_entry_is_not_read()
         (tokens : List Token) (it : Refused) → TokensFail cased before line tokens it
         → StatesNothing origin after (statement_of (entry_of line tokens)) → ⊥ }
 {}
+
+/// What is written for a file states the records that the file states, those of further types in
+/// words too, each at its line, and no others.
+pub fn a_rewriting_states_the_files_records()
+    ensures { (cased origin : Labels) (octets new : List ℕ) (told : List Refused)
+        (placed : List Placed) → IsRewriting cased octets new told
+        → FileStates origin new placed ↔ FileStatesJoined cased origin octets placed }
+{}
+
+/// Where something was refused, what is written states no list of records.
+pub fn a_rewriting_with_refusals_states_none()
+    ensures { (cased origin : Labels) (octets new : List ℕ) (told : List Refused)
+        (placed : List Placed) → IsRewriting cased octets new told
+        → FileStates origin new placed → told ≡ [] }
+{}
