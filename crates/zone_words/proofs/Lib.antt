@@ -20,6 +20,7 @@ mod JoinedRefused
 mod JoinedReading
 mod JoinedEntries
 mod JoinedFiles
+mod JoinedStopped
 mod Base32Digits
 mod Base64Texts
 mod HexDigits

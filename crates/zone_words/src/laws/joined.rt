@@ -1,17 +1,18 @@
 //! Laws of what is written anew as the reader of plain master files reads it.
-ghost use Rattle.std.specs.Prelude.{◌≡◌, ◌↔◌, ◌++◌, ◌∷◌, List, [], ℕ};
+ghost use Rattle.std.specs.Prelude.{◌≡◌, ◌↔◌, ◌++◌, ◌∷◌, codes, List, [], ℕ, IsSome};
 ghost use Rattle.std.specs.List.{AllByRecursion};
 ghost use Rattle.zone_name.specs.Common.{Labels};
 ghost use Rattle.zone_rdata.specs.Record.{Record};
 ghost use Rattle.zone_rdata.specs.declared.record.Placed.{Placed};
 ghost use Rattle.zone_text.specs.Entries.{Entry, entry_of};
 ghost use Rattle.zone_text.specs.File.{FileStates};
+ghost use Rattle.zone_text.specs.FileReads.{Ending, FileReads};
 ghost use Rattle.zone_text.specs.Records.{EntryStates, StatesNothing};
 ghost use Rattle.zone_text.specs.Statements.{statement_of};
 ghost use Rattle.zone_text.specs.Tokens.{IsToken, Token};
-ghost use Rattle.zone_words.specs.Entry.{IsRewriting, TokensFail, TokensSay};
+ghost use Rattle.zone_words.specs.Entry.{BecomesUnder, IsRewriting, TokensFail, TokensSay};
 ghost use Rattle.zone_words.specs.Joined.{FileStatesJoined, HasItsData, HasItsParts, LeaveAlike};
-ghost use Rattle.zone_words.specs.Rewriting.{Refused};
+ghost use Rattle.zone_words.specs.Rewriting.{IsRewrittenSoFar, Refused};
 ghost use Rattle.zone_words.specs.Written.{Anew, written};
 
 /// An entry that is written anew states, after entries that leave the same, the record that has the
@@ -50,4 +51,16 @@ pub fn a_rewriting_with_refusals_states_none()
     ensures { (cased origin : Labels) (octets new : List ℕ) (told : List Refused)
         (placed : List Placed) → IsRewriting cased octets new told
         → FileStates origin new placed → told ≡ [] }
+{}
+
+/// What is written before more octets come, with a last line `$STOPPED`, states no list of records,
+/// and a reading of it finds a fault.
+pub fn what_is_stopped_is_no_file()
+    ensures stated { (cased origin : Labels) (fed waiting new : List ℕ) (told : List Refused)
+        (placed : List Placed) → IsRewrittenSoFar (BecomesUnder cased) fed waiting new told
+        → FileStates origin (new ++ (codes "$STOPPED" ++ 10 ∷ [])) placed → ⊥ }
+    ensures refused { (cased origin : Labels) (fed waiting new : List ℕ) (told : List Refused)
+        (placed : List Placed) (ending : Ending)
+        → IsRewrittenSoFar (BecomesUnder cased) fed waiting new told
+        → FileReads origin (new ++ (codes "$STOPPED" ++ 10 ∷ [])) placed ending → IsSome ending }
 {}
