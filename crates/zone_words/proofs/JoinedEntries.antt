@@ -11,7 +11,7 @@ use Rattle.zone_text.specs.Tokens.{bare}
 use Rattle.zone_words.proofs.BecomesOnce.{becomes_once}
 use Rattle.zone_words.proofs.JoinedReading.{AreOfOneHead, alike_turned, anew_read, class_alike, no_new_minimum, no_old_minimum, one_head, StatesNoMinimum, owner_alike, owner_of, same_class, same_ttl, spells_too, ttl_alike}
 use Rattle.zone_words.proofs.JoinedRefused.{parts_state, refused_nothing, refused_record}
-use Rattle.zone_words.specs.Joined.{LeaveAlike, StatesJoined, by_itself, of_further}
+use Rattle.zone_words.specs.WithWords.{LeaveAlike, StatesWithWords, by_itself, of_further}
 
 -- ---- two entries that leave the same
 
@@ -168,7 +168,7 @@ heads_alike origin before after old new h none none' =
 pub record ReadsAlike (cased origin : Labels) (before after : List Entry) (line : ℕ) (tokens new : List Token) : Type 0 where
   pub leaves : LeaveAlike origin (entry_of line tokens ∷ before) (entry_of line new ∷ after)
   pub nothing : StatesNothing origin after (statement_of (entry_of line new)) ↔ StatesNothing origin before (statement_of (entry_of line tokens))
-  pub record_is : (r : Record) → EntryStates origin after (entry_of line new) r ↔ StatesJoined cased origin before line tokens r
+  pub record_is : (r : Record) → EntryStates origin after (entry_of line new) r ↔ StatesWithWords cased origin before line tokens r
 
 module _ (cased origin : Labels) (before after : List Entry) (line : ℕ) (same : LeaveAlike origin before after) where
   module _ (tokens : List Token) (each : AllByRecursion IsToken tokens) where
@@ -178,7 +178,7 @@ module _ (cased origin : Labels) (before after : List Entry) (line : ℕ) (same 
         let once = becomes_once cased before line tokens outcome (record { written = front ++ written it back; told = [] }) becomes (anew front back it say refl) in
         subst (λ (o : Outcome). EntryStates origin after (entry_of line o.written) r) (sym once) states
 
-    joined_to : (outcome : Outcome) (r : Record) → BecomesUnder cased before line tokens outcome → (EntryStates origin before (entry_of line tokens) r → ((front back : List Token) (it : Anew) → TokensSay cased before line tokens front back it → ⊥) → EntryStates origin after (entry_of line outcome.written) r) → StatesJoined cased origin before line tokens r → EntryStates origin after (entry_of line outcome.written) r
+    joined_to : (outcome : Outcome) (r : Record) → BecomesUnder cased before line tokens outcome → (EntryStates origin before (entry_of line tokens) r → ((front back : List Token) (it : Anew) → TokensSay cased before line tokens front back it → ⊥) → EntryStates origin after (entry_of line outcome.written) r) → StatesWithWords cased origin before line tokens r → EntryStates origin after (entry_of line outcome.written) r
     joined_to outcome r becomes itself (of_further front back it say its stated) =
         said front back it outcome r say becomes ((anew_read cased origin before after line tokens front back it r each same say).1 (its, stated))
     joined_to outcome r becomes itself (by_itself none states) = itself states none
@@ -193,7 +193,7 @@ module _ (cased origin : Labels) (before after : List Entry) (line : ℕ) (same 
     )
 
     -- it stays
-    kept_alike : (told : List Refused) → BecomesUnder cased before line tokens (record { written = tokens; told = told }) → ((r : Record) → EntryStates origin after (entry_of line tokens) r → StatesJoined cased origin before line tokens r) → ReadsAlike cased origin before after line tokens tokens
+    kept_alike : (told : List Refused) → BecomesUnder cased before line tokens (record { written = tokens; told = told }) → ((r : Record) → EntryStates origin after (entry_of line tokens) r → StatesWithWords cased origin before line tokens r) → ReadsAlike cased origin before after line tokens tokens
     kept_alike told becomes from = record {
       leaves = unchanged;
       nothing = nothing_alike;

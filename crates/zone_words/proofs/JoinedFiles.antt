@@ -10,11 +10,11 @@ use Rattle.zone_words.proofs.JoinedRefused.{refused_nothing, refused_record}
 use Rattle.zone_words.proofs.KeptEntries.{becomes_keeps}
 use Rattle.zone_words.proofs.RewrittenAgain.{each_and_last, each_tokens}
 use Rattle.zone_words.proofs.RewrittenCut.{IsCutBroken, IsCutWhole, cut_broken_text, cut_whole_text, news}
-use Rattle.zone_words.specs.Joined as joined
-use Rattle.zone_words.specs.Joined.{EachJoined, FileStatesJoined, JoinedFirst, LeaveAlike}
+use Rattle.zone_words.specs.WithWords as joined
+use Rattle.zone_words.specs.WithWords.{EachWithWords, FileStatesWithWords, FirstWithWords, LeaveAlike}
 use Rattle.zone_words.specs.Rewriting.{whole}
 
-leave_itself : (origin : Labels) (before : List Entry) → LeaveAlike origin before before
+pub leave_itself : (origin : Labels) (before : List Entry) → LeaveAlike origin before before
 leave_itself origin before = record {
   under = λ name. ((λ x. x), (λ x. x));
   owner = λ name. ((λ x. x), (λ x. x));
@@ -30,11 +30,11 @@ feeds tokens = count_by (λ c. c == 10) (text tokens)
 module _ (cased origin : Labels) where
   -- ---- one entry, and others after it
 
-  first_from : (before after : List Entry) (line : ℕ) (tokens new : List Token) (Old New : List Placed → Type 0) (placed : List Placed) → ReadsAlike cased origin before after line tokens new → ((others : List Placed) → New others → Old others) → StatesFirst origin after (entry_of line new) New placed → JoinedFirst cased origin before line tokens Old placed
+  pub first_from : (before after : List Entry) (line : ℕ) (tokens new : List Token) (Old New : List Placed → Type 0) (placed : List Placed) → ReadsAlike cased origin before after line tokens new → ((others : List Placed) → New others → Old others) → StatesFirst origin after (entry_of line new) New placed → FirstWithWords cased origin before line tokens Old placed
   first_from before after line tokens new Old New placed reads go (file.states_none nothing rest) = joined.states_none (reads.nothing.0 nothing) (go placed rest)
   first_from before after line tokens new Old New placed reads go (file.states_one p others states place are rest) = joined.states_one p others ((reads.record_is p.rr).0 states) place are (go others rest)
 
-  first_to : (before after : List Entry) (line : ℕ) (tokens new : List Token) (Old New : List Placed → Type 0) (placed : List Placed) → ReadsAlike cased origin before after line tokens new → ((others : List Placed) → Old others → New others) → JoinedFirst cased origin before line tokens Old placed → StatesFirst origin after (entry_of line new) New placed
+  first_to : (before after : List Entry) (line : ℕ) (tokens new : List Token) (Old New : List Placed → Type 0) (placed : List Placed) → ReadsAlike cased origin before after line tokens new → ((others : List Placed) → Old others → New others) → FirstWithWords cased origin before line tokens Old placed → StatesFirst origin after (entry_of line new) New placed
   first_to before after line tokens new Old New placed reads go (joined.states_none nothing rest) = file.states_none (reads.nothing.1 nothing) (go placed rest)
   first_to before after line tokens new Old New placed reads go (joined.states_one p others states place are rest) = file.states_one p others ((reads.record_is p.rr).1 states) place are (go others rest)
 
@@ -46,24 +46,24 @@ module _ (cased origin : Labels) where
 
   -- ---- entry after entry
 
-  each_from : (before after : List Entry) (line : ℕ) (entries : List (List Token)) (outcomes : List Outcome) (placed : List Placed) → LeaveAlike origin before after → AreAllTokens entries → AreBecome before line entries outcomes → EntriesState origin after (numbered line (news outcomes)) placed → EachJoined cased origin before line entries placed
+  each_from : (before after : List Entry) (line : ℕ) (entries : List (List Token)) (outcomes : List Outcome) (placed : List Placed) → LeaveAlike origin before after → AreAllTokens entries → AreBecome before line entries outcomes → EntriesState origin after (numbered line (news outcomes)) placed → EachWithWords cased origin before line entries placed
   each_from before after line [] [] placed same each becomes states = states
   each_from before after line [] (o ∷ outcomes) placed same each becomes states = absurd becomes
   each_from before after line (entry ∷ entries) [] placed same each becomes states = absurd becomes
   each_from before after line (entry ∷ entries) (o ∷ outcomes) placed same each becomes states =
       let reads = becomes_alike cased origin before after line same entry each.0 o becomes.0 in
       let lines : feeds entry ≡ feeds o.written = (becomes_keeps cased before line entry o becomes.0).lines each.0 in
-      first_from before after line entry o.written (EachJoined cased origin (entry_of line entry ∷ before) (line + feeds entry) entries) (EntriesState origin (entry_of line o.written ∷ after) (numbered (line + feeds o.written) (news outcomes))) placed reads
+      first_from before after line entry o.written (EachWithWords cased origin (entry_of line entry ∷ before) (line + feeds entry) entries) (EntriesState origin (entry_of line o.written ∷ after) (numbered (line + feeds o.written) (news outcomes))) placed reads
       (λ others rest. each_from (entry_of line entry ∷ before) (entry_of line o.written ∷ after) (line + feeds entry) entries outcomes others reads.leaves each.1 becomes.1 (subst (λ n. EntriesState origin (entry_of line o.written ∷ after) (numbered (line + n) (news outcomes)) others) (sym lines) rest)) states
 
-  each_to : (before after : List Entry) (line : ℕ) (entries : List (List Token)) (outcomes : List Outcome) (placed : List Placed) → LeaveAlike origin before after → AreAllTokens entries → AreBecome before line entries outcomes → EachJoined cased origin before line entries placed → EntriesState origin after (numbered line (news outcomes)) placed
+  each_to : (before after : List Entry) (line : ℕ) (entries : List (List Token)) (outcomes : List Outcome) (placed : List Placed) → LeaveAlike origin before after → AreAllTokens entries → AreBecome before line entries outcomes → EachWithWords cased origin before line entries placed → EntriesState origin after (numbered line (news outcomes)) placed
   each_to before after line [] [] placed same each becomes states = states
   each_to before after line [] (o ∷ outcomes) placed same each becomes states = absurd becomes
   each_to before after line (entry ∷ entries) [] placed same each becomes states = absurd becomes
   each_to before after line (entry ∷ entries) (o ∷ outcomes) placed same each becomes states =
       let reads = becomes_alike cased origin before after line same entry each.0 o becomes.0 in
       let lines : feeds entry ≡ feeds o.written = (becomes_keeps cased before line entry o becomes.0).lines each.0 in
-      first_to before after line entry o.written (EachJoined cased origin (entry_of line entry ∷ before) (line + feeds entry) entries) (EntriesState origin (entry_of line o.written ∷ after) (numbered (line + feeds o.written) (news outcomes))) placed reads
+      first_to before after line entry o.written (EachWithWords cased origin (entry_of line entry ∷ before) (line + feeds entry) entries) (EntriesState origin (entry_of line o.written ∷ after) (numbered (line + feeds o.written) (news outcomes))) placed reads
       (λ others rest. subst (λ n. EntriesState origin (entry_of line o.written ∷ after) (numbered (line + n) (news outcomes)) others) lines (each_to (entry_of line entry ∷ before) (entry_of line o.written ∷ after) (line + feeds entry) entries outcomes others reads.leaves each.1 becomes.1 rest)) states
 
   -- ---- nothing is told
@@ -109,20 +109,20 @@ module _ (cased origin : Labels) where
         let same : states.tokens ≡ found.others = one_cut new states.tokens found.others states.cut found.cut in
         subst (λ t. EntriesState origin [] (numbered 1 t) placed) (sym entries_are) (subst (λ t. EntriesState origin [] (entries_of t) placed) same states.each)
 
-    whole_from : (placed : List Placed) → FileStates origin new placed → FileStatesJoined cased origin octets placed
+    whole_from : (placed : List Placed) → FileStates origin new placed → FileStatesWithWords cased origin octets placed
     whole_from placed states = record { tokens = tokens; cut = cut; each = each_from [] [] 1 _ outcomes placed (leave_itself origin []) tokens_each each (entries_in placed states) }
 
-    whole_to : (placed : List Placed) → FileStatesJoined cased origin octets placed → FileStates origin new placed
+    whole_to : (placed : List Placed) → FileStatesWithWords cased origin octets placed → FileStates origin new placed
     whole_to placed states =
         let same : states.tokens ≡ tokens = one_cut octets states.tokens tokens states.cut cut in
-        let joined_each : EachJoined cased origin [] 1 (and_last (cut_from zero tokens).ended (cut_from zero tokens).open_tokens) placed = subst (λ t. EachJoined cased origin [] 1 (and_last (cut_from zero t).ended (cut_from zero t).open_tokens) placed) same states.each in
+        let joined_each : EachWithWords cased origin [] 1 (and_last (cut_from zero tokens).ended (cut_from zero tokens).open_tokens) placed = subst (λ t. EachWithWords cased origin [] 1 (and_last (cut_from zero t).ended (cut_from zero t).open_tokens) placed) same states.each in
         let now : EntriesState origin [] (numbered 1 (news outcomes)) placed = each_to [] [] 1 _ outcomes placed (leave_itself origin []) tokens_each each joined_each in
         record { tokens = found.others; cut = found.cut; each = subst (λ t. EntriesState origin [] (numbered 1 t) placed) entries_are now }
 
     whole_untold : (placed : List Placed) → told ≡ told_of outcomes → FileStates origin new placed → told ≡ []
     whole_untold placed told_is states = told_is ∙ each_untold [] [] 1 _ outcomes placed tokens_each each (entries_in placed states)
 
-  pub file_joined : (octets new : List ℕ) (told : List Refused) (placed : List Placed) → IsRewriting cased octets new told → FileStates origin new placed ↔ FileStatesJoined cased origin octets placed
+  pub file_joined : (octets new : List ℕ) (told : List Refused) (placed : List Placed) → IsRewriting cased octets new told → FileStates origin new placed ↔ FileStatesWithWords cased origin octets placed
   file_joined octets new told placed (whole tokens outcomes cut each new_is told_is) = (whole_from octets new told tokens outcomes cut each new_is placed, whole_to octets new told tokens outcomes cut each new_is placed)
   file_joined octets new told placed (broken tokens fault outcomes rest breaks each parts_are new_is told_is) =
       let found = cut_broken_text cased octets new tokens fault outcomes rest breaks each parts_are new_is in (

@@ -22,7 +22,7 @@ use Rattle.zone_words.proofs.SameStatements.{TypeStands, WordStands, by_octet, f
 use Rattle.zone_words.proofs.Turns.{items_behind, no_directive}
 use Rattle.zone_words.specs.DataItem.{items_of}
 use Rattle.zone_words.specs.Entry.{in_words}
-use Rattle.zone_words.specs.Joined.{HasItsData, HasItsParts, LeaveAlike}
+use Rattle.zone_words.specs.WithWords.{HasItsData, HasItsParts, LeaveAlike}
 use Rattle.zone_rdata.specs.Spelling as spelling
 use Rattle.zone_rdata.specs.Spelling.{StatesFor}
 use Rattle.hex.proofs.HexLemmas.{decode_of-encode_lower}

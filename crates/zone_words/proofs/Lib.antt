@@ -21,6 +21,7 @@ mod JoinedReading
 mod JoinedEntries
 mod JoinedFiles
 mod JoinedStopped
+mod JoinedFaults
 mod Base32Digits
 mod Base64Texts
 mod HexDigits

@@ -11,9 +11,13 @@ ghost use Rattle.zone_text.specs.Records.{EntryStates, StatesNothing};
 ghost use Rattle.zone_text.specs.Statements.{statement_of};
 ghost use Rattle.zone_text.specs.Tokens.{IsToken, Token};
 ghost use Rattle.zone_words.specs.Entry.{BecomesUnder, IsRewriting, TokensFail, TokensSay};
-ghost use Rattle.zone_words.specs.Joined.{FileStatesJoined, HasItsData, HasItsParts, LeaveAlike};
+ghost use Rattle.zone_words.specs.WithWords.{
+    FileReadsWithWords, FileStatesWithWords, HasItsData, HasItsParts, LeaveAlike,
+};
 ghost use Rattle.zone_words.specs.Rewriting.{IsRewrittenSoFar, Refused};
 ghost use Rattle.zone_words.specs.Written.{Anew, written};
+
+use zone_text::laws::entry::an_entry_has_one_outcome;
 
 /// An entry that is written anew states, after entries that leave the same, the record that has the
 /// owner, the class and the TTL of the entry, with the type and the data that the entry says anew,
@@ -43,7 +47,7 @@ pub fn a_refused_entry_is_not_read()
 pub fn a_rewriting_states_the_files_records()
     ensures { (cased origin : Labels) (octets new : List ℕ) (told : List Refused)
         (placed : List Placed) → IsRewriting cased octets new told
-        → FileStates origin new placed ↔ FileStatesJoined cased origin octets placed }
+        → FileStates origin new placed ↔ FileStatesWithWords cased origin octets placed }
 {}
 
 /// Where something was refused, what is written states no list of records.
@@ -52,6 +56,18 @@ pub fn a_rewriting_with_refusals_states_none()
         (placed : List Placed) → IsRewriting cased octets new told
         → FileStates origin new placed → told ≡ [] }
 {}
+
+/// A reading of what is written for a file gives the records that the file states, those of further
+/// types in words too, up to the first entry that states neither a record nor nothing, or up to what
+/// breaks the file; and a fault there at its line, if there is such a place.
+pub fn a_reading_of_a_rewriting_gives_the_files_records()
+    ensures { (cased origin : Labels) (octets new : List ℕ) (told : List Refused)
+        (placed : List Placed) (ending : Ending) → IsRewriting cased octets new told
+        → FileReads origin new placed ending
+        → FileReadsWithWords cased origin octets placed ending }
+{
+    an_entry_has_one_outcome();
+}
 
 /// What is written before more octets come, with a last line `$STOPPED`, states no list of records,
 /// and a reading of it finds a fault.
