@@ -1,16 +1,16 @@
 -- What an entry and what is written for it leave to those after them.
-use Rattle.zone_words.proofs.Common.{AllByRecursion, Anew, BecomesUnder, Entry, HasClass, IsClassWord, IsToken, Labels, List, MatchOption, None, Option, Outcome, Parts, RawItem, Refused, SaysAnew, Some, Statement, Token, TokensFail, TokensSay, [], anew, ap, class_word, entry_of, includes, kept, latest, option_or, owned, parts_in, refl, refused, sets_origin, sets_ttl, statement_of, subst, sym, touching_items, true, unknown, unowned, written, written_text, inl, inr, ℕ, ◌++◌, ◌∙◌, ◌∷◌, ◌≡◌}
+use Rattle.zone_words.proofs.Common.{AllByRecursion, Anew, BecomesUnder, Entry, IsToken, Labels, List, MatchOption, None, Option, Outcome, Parts, RawItem, Refused, SaysAnew, Some, Statement, Token, TokensSay, [], anew, ap, class_word, entry_of, includes, kept, option_or, owned, parts_in, refl, refused, sets_origin, sets_ttl, statement_of, subst, sym, touching_items, true, unknown, unowned, written, written_text, inl, inr, ℕ, ◌++◌, ◌∙◌, ◌∷◌, ◌≡◌}
 use Rattle.std.specs.Prelude.{◌↔◌}
 use Rattle.zone_name.specs.Spelling.{Spells}
 use Rattle.zone_rdata.specs.Item as raw
 use Rattle.zone_rdata.specs.Record.{Data, Record, data_of}
 use Rattle.zone_text.specs.Inherited.{IsLastOwner, IsOrigin, SpellsAfter, default_ttl_text, origin_text, owner_text, ttl_text}
-use Rattle.zone_text.specs.Records.{EntryStates, HasContents, HasHead, IsLastMinimum, StatesMinimum, StatesNothing}
+use Rattle.zone_text.specs.Records.{EntryStates, HasContents, IsLastMinimum, StatesMinimum, StatesNothing}
 use Rattle.zone_text.specs.Statements.{no_items}
 use Rattle.zone_text.specs.Tokens.{bare}
 use Rattle.zone_words.proofs.BecomesOnce.{becomes_once}
 use Rattle.zone_words.proofs.JoinedReading.{AreOfOneHead, alike_turned, anew_read, class_alike, no_new_minimum, no_old_minimum, one_head, StatesNoMinimum, owner_alike, owner_of, same_class, same_ttl, spells_too, ttl_alike}
-use Rattle.zone_words.proofs.JoinedRefused.{parts_state, refused_nothing, refused_record}
+use Rattle.zone_words.proofs.JoinedRefused.{parts_state, refused_record}
 use Rattle.zone_words.specs.WithWords.{LeaveAlike, StatesWithWords, by_itself, of_further}
 
 -- ---- two entries that leave the same

@@ -1,10 +1,10 @@
 -- A reading of what is written for a file gives the file's records up to the first entry that states
 -- none.
-use Rattle.zone_words.proofs.Common.{AllByRecursion, BecomesUnder, Breaks, Cut, Cuts, EachBecomes, Entry, Fault, IsRewriting, IsToken, Labels, List, Outcome, Refused, Token, [], and_last, ap, arith, count_by, cut_from, cut_not_broken, entry_of, flat_map, None, numbered, one_break, one_cut, refl, Some, statement_of, subst, sum_by-append, sym, text, written_of, zero, ℕ, ◌++◌, ◌+◌, ◌==◌, ◌∙◌, ◌∷◌, ◌≡◌}
+use Rattle.zone_words.proofs.Common.{AllByRecursion, BecomesUnder, Breaks, Cut, Cuts, EachBecomes, Entry, Fault, IsRewriting, IsToken, Labels, List, Outcome, Refused, Token, [], and_last, ap, count_by, cut_from, cut_not_broken, entry_of, flat_map, None, numbered, one_break, one_cut, refl, Some, statement_of, subst, sum_by-append, sym, text, zero, ℕ, ◌+◌, ◌==◌, ◌∙◌, ◌∷◌, ◌≡◌}
 use Rattle.zone_rdata.specs.Record.{Record}
 use Rattle.zone_rdata.specs.declared.fault.Place.TheVariants.{Line}
 use Rattle.zone_rdata.specs.declared.record.Placed.{Placed}
-use Rattle.zone_text.specs.Entries.{ended_entries, entries_of, open_line}
+use Rattle.zone_text.specs.Entries.{entries_of, open_line}
 use Rattle.zone_text.specs.EntryFault.{EntryFault}
 use Rattle.zone_text.specs.FileReads as file
 use Rattle.zone_text.specs.FileReads.{Ending, FileReads, ReadEach, ReadsFirst}

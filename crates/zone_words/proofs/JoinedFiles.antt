@@ -1,5 +1,5 @@
 -- A file's rewriting states what the file states with words of further types.
-use Rattle.zone_words.proofs.Common.{AllByRecursion, BecomesUnder, Cut, Cuts, EachBecomes, Entry, Fault, IsRewriting, IsToken, Labels, List, Outcome, Refused, Token, TokensFail, written_of, [], and_last, anew, ap, append-nil, broken, count_by, cut_from, cut_not_broken, entry_of, kept, numbered, one_cut, refl, refused, statement_of, subst, sym, text, told_of, zero, ℕ, ◌++◌, ◌+◌, ◌==◌, ◌∙◌, ◌∷◌, ◌≡◌}
+use Rattle.zone_words.proofs.Common.{AllByRecursion, BecomesUnder, Cut, Cuts, EachBecomes, Entry, IsRewriting, IsToken, Labels, List, Outcome, Refused, Token, TokensFail, written_of, [], and_last, anew, ap, broken, count_by, cut_from, cut_not_broken, entry_of, kept, numbered, one_cut, refl, refused, subst, sym, text, told_of, zero, ℕ, ◌++◌, ◌+◌, ◌==◌, ◌∙◌, ◌∷◌, ◌≡◌}
 use Rattle.std.specs.Prelude.{◌↔◌}
 use Rattle.zone_rdata.specs.declared.record.Placed.{Placed}
 use Rattle.zone_text.specs.Entries.{entries_of}
@@ -9,7 +9,7 @@ use Rattle.zone_words.proofs.JoinedEntries.{ReadsAlike, becomes_alike}
 use Rattle.zone_words.proofs.JoinedRefused.{refused_nothing, refused_record}
 use Rattle.zone_words.proofs.KeptEntries.{becomes_keeps}
 use Rattle.zone_words.proofs.RewrittenAgain.{each_and_last, each_tokens}
-use Rattle.zone_words.proofs.RewrittenCut.{IsCutBroken, IsCutWhole, cut_broken_text, cut_whole_text, news}
+use Rattle.zone_words.proofs.RewrittenCut.{IsCutWhole, cut_broken_text, cut_whole_text, news}
 use Rattle.zone_words.specs.WithWords as joined
 use Rattle.zone_words.specs.WithWords.{EachWithWords, FileStatesWithWords, FirstWithWords, LeaveAlike}
 use Rattle.zone_words.specs.Rewriting.{whole}
@@ -68,7 +68,7 @@ module _ (cased origin : Labels) where
 
   -- ---- nothing is told
 
-  rest_states : (after : List Entry) (entry : Entry) (Others : List Placed → Type 0) (placed : List Placed) → StatesFirst origin after entry Others placed → (others : List Placed) × Others others
+  pub rest_states : (after : List Entry) (entry : Entry) (Others : List Placed → Type 0) (placed : List Placed) → StatesFirst origin after entry Others placed → (others : List Placed) × Others others
   rest_states after entry Others placed (file.states_none nothing rest) = (placed, rest)
   rest_states after entry Others placed (file.states_one p others states place are rest) = (others, rest)
 
@@ -76,7 +76,7 @@ module _ (cased origin : Labels) where
   not_refused before after line tokens it Others placed fail (file.states_none nothing rest) = refused_nothing cased origin before after line tokens it fail nothing
   not_refused before after line tokens it Others placed fail (file.states_one p others states place are rest) = refused_record cased origin before after line tokens it p.rr fail states
 
-  one_untold : (before after : List Entry) (line : ℕ) (tokens : List Token) (o : Outcome) (Others : List Placed → Type 0) (placed : List Placed) → BecomesUnder cased before line tokens o → StatesFirst origin after (entry_of line o.written) Others placed → o.told ≡ []
+  pub one_untold : (before after : List Entry) (line : ℕ) (tokens : List Token) (o : Outcome) (Others : List Placed → Type 0) (placed : List Placed) → BecomesUnder cased before line tokens o → StatesFirst origin after (entry_of line o.written) Others placed → o.told ≡ []
   one_untold before after line tokens o Others placed (anew front back it say e) states = ap (λ (x : Outcome). x.told) e
   one_untold before after line tokens o Others placed (refused it fail e) states = absurd (not_refused before after line tokens it Others placed fail (subst (λ (x : Outcome). StatesFirst origin after (entry_of line x.written) Others placed) e states))
   one_untold before after line tokens o Others placed (kept no_say no_fail e) states = ap (λ (x : Outcome). x.told) e

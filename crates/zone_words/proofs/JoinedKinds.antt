@@ -1,11 +1,10 @@
 -- Further types as the reader of plain master files knows them: by number alone, without a layout.
-use Rattle.zone_words.proofs.Common.{Bool, FurtherType, IsFurtherWord, IsKindWord, IsMnemonic, IsNumbered, IsWordAmong, List, Named, None, Option, Some, ap, arith, by_mnemonic, by_number, bytes_eq, codes, each_mnemonic, eqb-true, false, false≢true, find, folded_label, found_each, further_names, further_type, further_types, is_some, named, nat_lt, nat_tests, not, not-true, option_map, own_numbers, is_number, unlike, refl, subst, sym, true, type_names, types, word_once, ℕ, ◌++◌, ◌<◌, ◌==◌, ◌∙◌, ◌∷◌, ◌≡◌}
-use Rattle.std.specs.Prelude.{decimal, ◌≤◌}
+use Rattle.zone_words.proofs.Common.{Bool, FurtherType, IsFurtherWord, IsKindWord, IsMnemonic, IsNumbered, IsWordAmong, List, Named, None, Option, Some, ap, arith, by_mnemonic, by_number, bytes_eq, codes, each_mnemonic, false, false≢true, find, folded_label, found_each, further_names, further_type, further_types, is_some, named, nat_lt, nat_tests, not, not-true, option_map, own_numbers, is_number, unlike, refl, sym, true, type_names, types, word_once, ℕ, ◌++◌, ◌<◌, ◌==◌, ◌∙◌, ◌≡◌}
+use Rattle.std.specs.Prelude.{decimal}
 use Rattle.zone_rdata.proofs.Items.GenericLaws.{decimal-is}
 use Rattle.zone_rdata.proofs.Words.OneWord.{kind_word_once}
 use Rattle.zone_rdata.specs.Layout.{fields_in, layout}
 use Rattle.zone_rdata.specs.Table.{NamedType}
-use Rattle.zone_rdata.specs.declared.field.Field.{Field}
 
 -- ---- a word of a further type is that of its number for the reader
 

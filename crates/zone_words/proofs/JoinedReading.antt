@@ -1,6 +1,6 @@
 -- An entry that is written anew states the entry's record.
-use Rattle.zone_words.proofs.Common.{AllByRecursion, Anew, AreOctets, Bool, Entry, FurtherType, HasClass, IsFurtherRecord, IsFurtherUnder, IsFurtherWord, IsGeneric, IsNumbered, IsToken, Labels, List, MatchOption, None, Option, Parts, RawItem, SaysAnew, Some, Statement, Token, TokensSay, TouchingItem, Word, Written, [], ap, arith, append-nil, by_number, class_among, class_word, codes, decode_of-ok, decode_of-same, directive, each_below, encode_lower, entry_of, escaped, false, false≢true, filter, flat_map, further_type, get_or_past, if◌then◌else◌, in_generic_form, includes, inl, inr, is_blank, item_of, latest, length, lower_digits, map, option_and_then, option_or, owned, parts_after, parts_in, plain, recursion_from_All, refl, renamed, sets_origin, sets_ttl, slice_get, slice_index, statement_by, statement_of, stays, subst, sym, text, touching_items, true, type_names, unknown, unowned, written, written_text, ℕ, ◌++◌, ◌+◌, ◌/◌, ◌%◌, ◌<◌, ◌==◌, ◌∙◌, ◌∷◌, ◌≡◌}
-use Rattle.std.specs.Prelude.{◌↔◌, ◌≤◌, decimal, suc, zero}
+use Rattle.zone_words.proofs.Common.{AllByRecursion, Anew, AreOctets, Bool, Entry, FurtherType, HasClass, IsFurtherUnder, IsNumbered, IsToken, Labels, List, MatchOption, None, Option, Parts, RawItem, SaysAnew, Some, Statement, Token, TokensSay, TouchingItem, Written, [], ap, arith, append-nil, by_number, class_among, class_word, codes, decode_of-ok, decode_of-same, directive, each_below, encode_lower, entry_of, false, false≢true, filter, flat_map, further_type, get_or_past, if◌then◌else◌, in_generic_form, includes, inl, inr, is_blank, item_of, length, lower_digits, option_and_then, option_or, owned, parts_after, parts_in, recursion_from_All, refl, renamed, sets_origin, sets_ttl, slice_get, slice_index, statement_by, statement_of, stays, subst, sym, text, touching_items, true, unknown, unowned, written, written_text, ℕ, ◌++◌, ◌/◌, ◌<◌, ◌==◌, ◌∙◌, ◌∷◌, ◌≡◌}
+use Rattle.std.specs.Prelude.{◌↔◌, ◌≤◌, decimal}
 use Rattle.std.proofs.lemmas.Bool.{cases_lt}
 use Rattle.hex.specs.Hex.{encode_with, is_hex_digit}
 use Rattle.zone_name.proofs.Texts.Bare.{plain_text}
@@ -10,15 +10,15 @@ use Rattle.zone_rdata.specs.Item as raw
 use Rattle.zone_rdata.specs.Layout.{layout}
 use Rattle.zone_rdata.specs.Minimum.{last_of, minimum}
 use Rattle.zone_rdata.specs.Number.{IsTime}
-use Rattle.zone_rdata.specs.Record.{Data, IsRecord, Record, data_of}
-use Rattle.zone_rdata.specs.Words.{IsClassWord, IsKindWord}
-use Rattle.zone_text.specs.Inherited.{IsLastOwner, IsOrigin, IsOwner, SpellsAfter, default_ttl_text, origin_text, owner_text, stated_ttl, ttl_text}
-use Rattle.zone_text.specs.Records.{EntryStates, HasContents, HasHead, HasTtl, HasValue, IsLastMinimum, StatesMinimum}
+use Rattle.zone_rdata.specs.Record.{Data, IsRecord, Record}
+use Rattle.zone_rdata.specs.Words.{IsClassWord}
+use Rattle.zone_text.specs.Inherited.{IsLastOwner, IsOwner, SpellsAfter, stated_ttl, ttl_text}
+use Rattle.zone_text.specs.Records.{EntryStates, HasHead, HasTtl, IsLastMinimum, StatesMinimum}
 use Rattle.zone_text.specs.Statements.{no_items, ttl_among}
 use Rattle.zone_text.specs.Tokens.{bare, blank, closing, comment, line_feed, opening, quoted}
 use Rattle.zone_words.proofs.JoinedKinds.{no_layout, no_start, type_numbered}
 use Rattle.zone_words.proofs.JoinedRefused.{HasType, form_read, head_of, type_in}
-use Rattle.zone_words.proofs.SameStatements.{TypeStands, WordStands, by_octet, first_same, items_after, new_items, none_before, number_in, old_items, parts_of, says_stated, too_short, type_item, type_stands, type_text}
+use Rattle.zone_words.proofs.SameStatements.{WordStands, first_same, items_after, new_items, none_before, number_in, old_items, parts_of, too_short, type_item, type_stands, type_text}
 use Rattle.zone_words.proofs.Turns.{items_behind, no_directive}
 use Rattle.zone_words.specs.DataItem.{items_of}
 use Rattle.zone_words.specs.Entry.{in_words}
@@ -26,7 +26,6 @@ use Rattle.zone_words.specs.WithWords.{HasItsData, HasItsParts, LeaveAlike}
 use Rattle.zone_rdata.specs.Spelling as spelling
 use Rattle.zone_rdata.specs.Spelling.{StatesFor}
 use Rattle.hex.proofs.HexLemmas.{decode_of-encode_lower}
-use Rattle.std.specs.Prelude.{◌-◌}
 use Rattle.zone_words.specs.Written.{in_octets}
 
 -- ---- the owner of a record, where other items follow from the type on

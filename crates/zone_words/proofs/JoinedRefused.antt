@@ -1,12 +1,11 @@
 -- An entry that is refused is none for the reader of plain master files.
-use Rattle.zone_words.proofs.Common.{AllByRecursion, Entry, IsFurtherWord, FurtherType, IsFurtherRecord, IsGeneric, IsKindWord, Labels, List, None, Option, Parts, RawItem, Refused, Some, Statement, Token, TokensFail, TouchingItem, [], ap, entry_of, owned, parts_in, refl, statement_of, subst, sym, touching_items, true, unowned, includes, unknown, sets_origin, sets_ttl, written_text, ℕ, ◌∙◌, ◌∷◌, ◌≡◌}
+use Rattle.zone_words.proofs.Common.{AllByRecursion, Entry, IsFurtherWord, FurtherType, IsFurtherRecord, IsGeneric, IsKindWord, Labels, List, None, Option, Parts, RawItem, Refused, Some, Statement, Token, TokensFail, TouchingItem, ap, entry_of, owned, parts_in, statement_of, subst, sym, touching_items, true, unowned, includes, unknown, sets_origin, sets_ttl, written_text, ℕ, ◌∙◌, ◌∷◌, ◌≡◌}
 use Rattle.zone_rdata.specs.Generic.{StatesGeneric}
 use Rattle.zone_rdata.specs.Layout.{layout}
 use Rattle.zone_rdata.specs.Record.{Record, data_of}
 use Rattle.zone_rdata.specs.Item as raw
-use Rattle.zone_rdata.specs.Field.{FieldValue}
 use Rattle.zone_rdata.specs.declared.field.Field.{Field}
-use Rattle.zone_rdata.specs.Spelling.{IsCanonicalOf, States, StatesFor, StatesInForm, in_octets, in_words}
+use Rattle.zone_rdata.specs.Spelling.{IsCanonicalOf, States, StatesFor, in_octets, in_words}
 use Rattle.zone_text.specs.Records.{EntryStates, HasContents, HasHead, HasValue, StatesNothing}
 use Rattle.zone_text.specs.Statements.{no_items}
 use Rattle.zone_words.proofs.JoinedKinds.{further_kind, no_layout}

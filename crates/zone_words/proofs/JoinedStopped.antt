@@ -1,5 +1,5 @@
 -- Whole entries and a directive that nobody knows state no records.
-use Rattle.zone_words.proofs.Common.{AllByRecursion, AreEntries, BecomesUnder, Breaks, Cut, Cuts, EachBecomes, Entry, Fault, IsToken, Labels, List, None, Option, Outcome, Refused, Some, Token, [], and_last, ap, append-nil, append_assoc, arith, codes, count_by, cut_from, cut_not_broken, entry_of, flat_map, flat_map-append, line_feed, map, numbered, one_cut, parts_in, plain, refl, statement_of, subst, sym, text, unknown, written_of, zero, ℕ, ◌++◌, ◌+◌, ◌==◌, ◌∙◌, ◌∷◌, ◌≡◌}
+use Rattle.zone_words.proofs.Common.{AllByRecursion, AreEntries, BecomesUnder, Breaks, Cut, Cuts, EachBecomes, Entry, Fault, Labels, List, None, Refused, Some, Token, [], and_last, ap, append-nil, append_assoc, arith, codes, count_by, cut_from, cut_not_broken, entry_of, flat_map, flat_map-append, line_feed, numbered, one_cut, refl, statement_of, subst, sym, text, unknown, zero, ℕ, ◌++◌, ◌+◌, ◌==◌, ◌∙◌, ◌∷◌, ◌≡◌}
 use Rattle.std.specs.Prelude.{IsSome}
 use Rattle.zone_rdata.specs.declared.record.Placed.{Placed}
 use Rattle.zone_text.proofs.Files.Decides.{file_reads_state}
@@ -10,12 +10,9 @@ use Rattle.zone_text.specs.File as file
 use Rattle.zone_text.specs.File.{EntriesState, FileStates, StatesFirst}
 use Rattle.zone_text.specs.FileReads.{Ending, FileReads}
 use Rattle.zone_text.specs.FirstEntry.{IsBrokenOff}
-use Rattle.zone_text.specs.Records.{EntryStates}
-use Rattle.zone_text.specs.Tokens.{bare}
 use Rattle.zone_words.proofs.CutEntries.{IsWholeEntry, broken_together, whole_parted, whole_together}
-use Rattle.zone_words.proofs.EntryShapes.{cut_of}
 use Rattle.zone_words.proofs.RewrittenCut.{cut_whole_text}
-use Rattle.zone_words.specs.Rewriting.{IsRewrittenSoFar, IsStopped, going, stopped}
+use Rattle.zone_words.specs.Rewriting.{IsRewrittenSoFar, going, stopped}
 use Rattle.zone_words.specs.Written.{word}
 
 abbrev stop : List Token

@@ -22,6 +22,7 @@ mod JoinedEntries
 mod JoinedFiles
 mod JoinedStopped
 mod JoinedFaults
+mod JoinedRefusals
 mod Base32Digits
 mod Base64Texts
 mod HexDigits

@@ -1,5 +1,5 @@
 -- The records that a master file with words of further types states (RFC 1035 5.1, RFC 3597 5).
-use Rattle.std.specs.Prelude.{◌≡◌, ◌↔◌, ℕ, zero, ◌+◌, List, [], ◌∷◌, count_by, ◌==◌, Some, None}
+use Rattle.std.specs.Prelude.{◌≡◌, ◌↔◌, ℕ, zero, ◌+◌, List, [], ◌∷◌, count_by, ◌==◌, ◌≤◌, Some, None}
 use Rattle.std.specs.List.{flat_map}
 use Rattle.zone_name.specs.Common.{Labels}
 use Rattle.zone_rdata.specs.Generic.{StatesGeneric}
@@ -121,3 +121,10 @@ pub data FileReadsWithWords (cased origin : Labels) (octets : List ℕ) (placed 
       → ReadEachWithWords cased origin (Some (fault, Line (open_line tokens))) [] 1
       (cut_from zero tokens).ended placed ending
       → FileReadsWithWords cased origin octets placed ending
+
+-- a reading ends with a fault at a line or before it
+pub record EndsBy (line : ℕ) (ending : Ending) : Type 0 where
+  pub fault : Fault
+  pub at : ℕ
+  pub is : ending ≡ Some (fault, Line at)
+  pub early : at ≤ line

@@ -11,10 +11,9 @@ ghost use Rattle.zone_text.specs.Records.{EntryStates, StatesNothing};
 ghost use Rattle.zone_text.specs.Statements.{statement_of};
 ghost use Rattle.zone_text.specs.Tokens.{IsToken, Token};
 ghost use Rattle.zone_words.specs.Entry.{BecomesUnder, IsRewriting, TokensFail, TokensSay};
-ghost use Rattle.zone_words.specs.WithWords.{
-    FileReadsWithWords, FileStatesWithWords, HasItsData, HasItsParts, LeaveAlike,
-};
 ghost use Rattle.zone_words.specs.Rewriting.{IsRewrittenSoFar, Refused};
+ghost use Rattle.zone_words.specs.WithWords.{EndsBy, FileReadsWithWords, FileStatesWithWords};
+ghost use Rattle.zone_words.specs.WithWords.{HasItsData, HasItsParts, LeaveAlike};
 ghost use Rattle.zone_words.specs.Written.{Anew, written};
 
 use zone_text::laws::entry::an_entry_has_one_outcome;
@@ -55,6 +54,14 @@ pub fn a_rewriting_with_refusals_states_none()
     ensures { (cased origin : Labels) (octets new : List ℕ) (told : List Refused)
         (placed : List Placed) → IsRewriting cased octets new told
         → FileStates origin new placed → told ≡ [] }
+{}
+
+/// A reading of what is written for a file ends with a fault at the line of the first entry that is
+/// refused, or before.
+pub fn a_reading_ends_where_an_entry_is_refused()
+    ensures { (cased origin : Labels) (octets new : List ℕ) (it : Refused) (others : List Refused)
+        (placed : List Placed) (ending : Ending) → IsRewriting cased octets new (it ∷ others)
+        → FileReads origin new placed ending → EndsBy it.line ending }
 {}
 
 /// A reading of what is written for a file gives the records that the file states, those of further
