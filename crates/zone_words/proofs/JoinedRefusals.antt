@@ -1,9 +1,9 @@
 -- A reading of what is written for a file ends where an entry is refused, or before.
-use Rattle.zone_words.proofs.Common.{AllByRecursion, BecomesUnder, Cut, EachBecomes, Entry, Fault, IsRefused, IsRewriting, IsToken, Labels, List, Outcome, Refused, Some, Token, TouchingItem, [], and_last, anew, ap, arith, count_by, cut_from, cut_not_broken, entry_of, kept, no_data, numbered, on_more_lines, one_break, one_cut, refl, refused, subst, sym, text, told_of, too_many, written_text, touching_items, true, zero, ℕ, ◌++◌, ◌+◌, ◌==◌, ◌∙◌, ◌∷◌, ◌≡◌, None}
+use Rattle.zone_words.proofs.Common.{AllByRecursion, BecomesUnder, Cut, EachBecomes, Entry, IsRefused, IsRewriting, IsToken, Labels, List, Outcome, Refused, Some, Token, TouchingItem, [], and_last, anew, ap, arith, count_by, cut_from, cut_not_broken, entry_of, kept, no_data, numbered, on_more_lines, one_break, one_cut, refl, refused, subst, sym, text, told_of, too_many, written_text, touching_items, true, zero, ℕ, ◌++◌, ◌+◌, ◌==◌, ◌∙◌, ◌∷◌, ◌≡◌, None}
 use Rattle.std.specs.Prelude.{◌≤◌}
 use Rattle.zone_rdata.specs.declared.record.Placed.{Placed}
 use Rattle.zone_rdata.specs.declared.fault.Place.TheVariants.{Line}
-use Rattle.zone_text.specs.Entries.{ended_entries, entries_of, open_line}
+use Rattle.zone_text.specs.Entries.{entries_of, open_line}
 use Rattle.zone_text.specs.FileReads as file
 use Rattle.zone_text.specs.FileReads.{Ending, FileReads, ReadEach, ReadsFirst}
 use Rattle.zone_words.proofs.JoinedFiles.{one_untold, rest_states}
@@ -34,24 +34,23 @@ module _ (cased origin : Labels) where
   passed_line line more o outcomes it others none told next =
       let h = next ((λ j. sym none j ++ told_of outcomes) ∙ told) in omega arith
 
+  told_here : (before : List Entry) (line : ℕ) (entry : List Token) (o : Outcome) (outcomes : List Outcome) (it : Refused) (others : List Refused) → told_of (o ∷ outcomes) ≡ it ∷ others → (told_of outcomes ≡ it ∷ others → line + feeds entry ≤ it.line) → BecomesUnder cased before line entry o → line ≤ it.line
+  told_here before line entry o outcomes it others told next (anew front back say_it say e) = passed_line line (feeds entry) o outcomes it others (ap (λ (x : Outcome). x.told) e) told next
+  told_here before line entry o outcomes it others told next (kept no_say no_fail e) = passed_line line (feeds entry) o outcomes it others (ap (λ (x : Outcome). x.told) e) told next
+  told_here before line entry o outcomes it others told next (refused r fail e) =
+      let both : r ∷ told_of outcomes ≡ it ∷ others = (λ j. sym (ap (λ (x : Outcome). x.told) e) j ++ told_of outcomes) ∙ told in
+      let same : r ≡ it = cc both in
+      let own : r.line ≡ line = fails_line cased before (entry_of line entry) (written_text fail.word) (touching_items true fail.back) r fail.fails in
+      let lines : it.line ≡ line = ap (λ (x : Refused). x.line) (sym same) ∙ own in
+      omega arith
+
   told_line : (before : List Entry) (line : ℕ) (entries : List (List Token)) (outcomes : List Outcome) (it : Refused) (others : List Refused) → AreBecome before line entries outcomes → told_of outcomes ≡ it ∷ others → line ≤ it.line
   told_line before line [] [] it others becomes told = absurd cc
   told_line before line [] (o ∷ outcomes) it others becomes told = absurd becomes
   told_line before line (entry ∷ entries) [] it others becomes told = absurd becomes
-  told_line before line (entry ∷ entries) (o ∷ outcomes) it others becomes told = by_outcome becomes.0
-    where
-      next : told_of outcomes ≡ it ∷ others → line + feeds entry ≤ it.line
-      next later = told_line (entry_of line entry ∷ before) (line + feeds entry) entries outcomes it others becomes.1 later
-
-      by_outcome : BecomesUnder cased before line entry o → line ≤ it.line
-      by_outcome (anew front back say_it say e) = passed_line line (feeds entry) o outcomes it others (ap (λ (x : Outcome). x.told) e) told next
-      by_outcome (kept no_say no_fail e) = passed_line line (feeds entry) o outcomes it others (ap (λ (x : Outcome). x.told) e) told next
-      by_outcome (refused r fail e) =
-          let both : r ∷ told_of outcomes ≡ it ∷ others = (λ j. sym (ap (λ (x : Outcome). x.told) e) j ++ told_of outcomes) ∙ told in
-          let same : r ≡ it = cc both in
-          let own : r.line ≡ line = fails_line cased before (entry_of line entry) (written_text fail.word) (touching_items true fail.back) r fail.fails in
-          let lines : it.line ≡ line = ap (λ (x : Refused). x.line) (sym same) ∙ own in
-          omega arith
+  told_line before line (entry ∷ entries) (o ∷ outcomes) it others becomes told =
+      told_here before line entry o outcomes it others told
+      (λ later. told_line (entry_of line entry ∷ before) (line + feeds entry) entries outcomes it others becomes.1 later) becomes.0
 
   each_ends : (last : Ending) (before after : List Entry) (line : ℕ) (entries : List (List Token)) (outcomes : List Outcome) (placed : List Placed) (ending : Ending) (it : Refused) (others : List Refused) → AreAllTokens entries → AreBecome before line entries outcomes → told_of outcomes ≡ it ∷ others → ReadEach origin last after (numbered line (news outcomes)) placed ending → EndsBy it.line ending
   each_ends last before after line [] [] placed ending it others each becomes told reading = absurd cc
