@@ -72,7 +72,7 @@ pub use Rattle.zone_words.specs.Machine.Parameters.{FailsEscaped, HasName, HasNo
 pub use Rattle.zone_words.specs.Machine.KnownItems.{FollowsItem, FollowsItems, FrontIs, KeepsGap, PassesGap, StandsAround, before_item, from_item, past_items}
 pub use Rattle.zone_words.specs.Machine.Stated.{AddsParameter, AreSent, FailsAfter, HasStated, Holds, again, all_sent, keyless, valueless}
 pub use Rattle.zone_words.specs.Machine.Walking.{BeginsBlank, WritesBetween}
-pub use Rattle.zone_words.specs.Mnemonics.{IsAlgorithm, IsNumberOrMnemonic, IsTypeWord, algorithms, certificate_types, further_algorithms, name_of, registered_types}
+pub use Rattle.zone_words.specs.Mnemonics.{IsAlgorithm, IsNumberOrMnemonic, IsTypeWord, algorithms, certificate_types, further_algorithms, name_of}
 pub use Rattle.zone_words.specs.Origin.{IsCasedOrigin, NamesOrigin, origin_items}
 pub use Rattle.zone_words.specs.Parameters.{AreComplete, AreOnce, Ascend, BeginWithKey, BeginWithNoKey, FailsParameters, IsNew, IsShort, IsThere, Parameter, Precede, Sent, StateEach, StatesParameter, StatesParameters, all_required, bad_value, long_value, missing_key, no_key, repeated_key, sent, sent_octets}
 pub use Rattle.zone_words.specs.Parameters.Keys.{SpellsKey, key_text}
@@ -81,7 +81,7 @@ pub use Rattle.zone_words.specs.Parameters.Value.{AscendAbove, FailsValue, HasEs
 pub use Rattle.zone_words.specs.Refusal.{AddsTold, AreInShort, first_of, refused_of}
 pub use Rattle.zone_words.specs.Rewriter.{GoesOn, HeldText, IsSoFar, RewriterState, RewritesFile, StandsForRewriting, StandsInPart, all_given, going, stopped}
 pub use Rattle.zone_words.specs.Rewriting.{AreEntries, Becomes, EachBecomes, IsRewritten, IsRewrittenInPart, IsRewrittenSoFar, IsStopped, Outcome, Refused, broken, told_of, written_of}
-pub use Rattle.zone_words.specs.Table.{FurtherType, IsFurtherWord, NamedField, address_kind, field_of, further_names, further_of, further_type, further_types, is_one, key_kind, number_at}
+pub use Rattle.zone_words.specs.Table.{FurtherType, IsFurtherWord, NamedField, RegisteredType, address_kind, field_of, further_in, further_names, further_of, further_type, further_types, in_words, is_one, key_kind, name_only, number_at, registered_of, registered_types, type_registry}
 pub use Rattle.zone_words.specs.Unescaped.{ComesToBadEscape, Unescaped}
 pub use Rattle.zone_words.specs.Written.{Anew, digit_tokens, generic_tokens, renamed, stays, type_token, word, written}
 pub use Rattle.zone_words.specs.declared.data_item.DataItem.{DataItem}

@@ -10,7 +10,7 @@ pub mod OneRewriting
 pub mod OwnRewriting
 mod EntryShapes
 mod CutEntries
-mod WrittenWords
+pub mod WrittenWords
 mod KeptEntries
 pub mod RewrittenCut
 mod SameStatements
@@ -32,6 +32,7 @@ mod PassedFaults
 pub mod Printed
 pub mod PrintedStanding
 mod Numbers
+pub mod TypeRegistry
 mod TypeWords
 mod MnemonicOf
 mod StringItems

@@ -17,23 +17,34 @@ the_same (Some m) word e = ap Some ((bytes_eq-Decides m word).0 e)
 abbrev AreRegistered : List Named → Type 0
 AreRegistered rows = list_all (λ (row : Named). is_same (mnemonic_among registered_types row.number) row.mnemonic) rows ≡ true
 
+registered_row : (rows : List Named) → AreRegistered rows → (n : ℕ) (name : List ℕ) → mnemonic_among rows n ≡ Some name → mnemonic_among registered_types n ≡ Some name
+registered_row rows all n name row = the_same (mnemonic_among registered_types n) name (each_mnemonic (λ n name. is_same (mnemonic_among registered_types n) name) rows all n name row)
+
 registered_mnemonic : (rows : List Named) → AreRegistered rows → (word : List ℕ) (n : ℕ) → IsMnemonic rows word n → IsMnemonic registered_types word n
 registered_mnemonic rows all word n is = record {
   name = is.name;
-  row = the_same (mnemonic_among registered_types n) is.name (each_mnemonic (λ n name. is_same (mnemonic_among registered_types n) name) rows all n is.name is.row);
+  row = registered_row rows all n is.name is.row;
   same = is.same;
 }
 
-abbrev IsRegistered : List ℕ → ℕ → Type 0
+abbrev pub IsRegistered : List ℕ → ℕ → Type 0
 IsRegistered = IsWordAmong registered_types (codes "TYPE")
 
 registered_word : (rows : List Named) → AreRegistered rows → (word : List ℕ) (n : ℕ) → IsWordAmong rows (codes "TYPE") word n → IsRegistered word n
 registered_word rows all word n (by_mnemonic is) = by_mnemonic (registered_mnemonic rows all word n is)
 registered_word rows all word n (by_number is) = by_number is
 
+pub registered_name : (n : ℕ) (name : List ℕ) → mnemonic_among further_names n ≡ Some name → mnemonic_among registered_types n ≡ Some name
+unfolding is_same
+registered_name = registered_row further_names refl
+
+pub registered_further : (word : List ℕ) (n : ℕ) → IsWordAmong further_names (codes "TYPE") word n → IsRegistered word n
+unfolding is_same
+registered_further = registered_word further_names refl
+
 pub same_number : (word : List ℕ) (n : ℕ) (f : FurtherType) → IsKindWord word n → IsFurtherWord word f → n ≡ f.number
 unfolding is_number own_numbers unlike is_same
-same_number word n f kind further = word_once registered_types (codes "TYPE") refl refl word n f.number (registered_word type_names refl word n kind) (registered_word further_names refl word f.number further.named)
+same_number word n f kind further = word_once registered_types (codes "TYPE") refl refl word n f.number (registered_word type_names refl word n kind) (registered_further word f.number further.named)
 
 -- ---- no further type has a layout
 

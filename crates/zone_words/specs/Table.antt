@@ -1,6 +1,6 @@
--- The further types, a row each, their numbers ascending, with the section of the RFC that gives
--- the words of each.
-use Rattle.std.specs.Prelude.{◌≡◌, ℕ, List, [], ◌∷◌, ◌==◌, Bool, true, false, codes, map, Option, Some, None, if◌then◌else◌}
+-- The registered types, a row each, their numbers ascending: the further types, with the section of
+-- the RFC that gives the words of each, and the rest, which stand in data alone.
+use Rattle.std.specs.Prelude.{◌≡◌, ℕ, List, [], ◌∷◌, ◌==◌, Bool, true, false, codes, filter_map, map, Option, Some, None, if◌then◌else◌}
 use Rattle.std.specs.List.{find, slice_get}
 use Rattle.zone_rdata.specs.Table.{Named}
 use Rattle.zone_rdata.specs.Words.{IsWordAmong}
@@ -14,6 +14,8 @@ use Rattle.zone_words.specs.declared.field.FieldKind.TheVariants.{Bare, Base64, 
 use Rattle.zone_words.specs.declared.fields.Fields as coded_fields
 use Rattle.zone_words.specs.declared.fields.Fields.TheVariants as coded
 use Rattle.zone_words.specs.declared.table.FurtherType as code
+use Rattle.zone_words.specs.declared.table.RegisteredType as coded_types
+use Rattle.zone_words.specs.declared.table.RegisteredType.TheVariants as coded_type
 
 -- a field by its name in the RFC, in lower case, and what its items state
 pub record NamedField : Type 0 where
@@ -35,29 +37,35 @@ pub record FurtherType : Type 0 where
   pub in_internet_alone : Bool
   pub fields : Fields
 
+-- a registered type: a further one, or one by its number and its mnemonic alone
+pub data RegisteredType : Type 0 where
+  in_words : FurtherType → RegisteredType
+  name_only : ℕ → List ℕ → RegisteredType
+
 abbrev pub field : List ℕ → FieldKind → NamedField
 field name kind = record { name = name; kind = kind }
 
-abbrev pub in_every : ℕ → List ℕ → List NamedField → FurtherType
+abbrev pub in_every : ℕ → List ℕ → List NamedField → RegisteredType
 in_every number mnemonic fields =
-    record {
+    in_words record {
       number = number;
       mnemonic = mnemonic;
       in_internet_alone = false;
       fields = same fields;
     }
 
-abbrev pub in_internet : ℕ → List ℕ → List NamedField → FurtherType
+abbrev pub in_internet : ℕ → List ℕ → List NamedField → RegisteredType
 in_internet number mnemonic fields =
-    record {
+    in_words record {
       number = number;
       mnemonic = mnemonic;
       in_internet_alone = true;
       fields = same fields;
     }
 
-abbrev pub of_its_own : ℕ → List ℕ → Fields → FurtherType
+abbrev pub of_its_own : ℕ → List ℕ → Fields → RegisteredType
 of_its_own number mnemonic fields =
+    in_words
     record { number = number; mnemonic = mnemonic; in_internet_alone = false; fields = fields }
 
 -- ---- fields that depend on the items before them
@@ -86,20 +94,26 @@ abbrev pub is_one : Option ℕ → Bool
 is_one None = false
 is_one (Some n) = n == 1
 
--- RFC 4025 2, 3
-abbrev pub ipseckey_fields : List TouchingItem → List NamedField
-ipseckey_fields items =
+-- those of IPSECKEY by the type of its gateway and the algorithm of its key (RFC 4025 2, 3)
+abbrev pub ipseckey_by : Option ℕ → Option ℕ → List NamedField
+ipseckey_by gateway algorithm =
     field (codes "precedence") (Bare U8) ∷ field (codes "gateway type") (Bare (AddressType false))
-    ∷ field (codes "algorithm") (Bare U8)
-    ∷ field (codes "gateway") (Bare (address_kind (number_at items 1)))
-    ∷ field (codes "public key") (key_kind (number_at items 2)) ∷ []
+    ∷ field (codes "algorithm") (Bare U8) ∷ field (codes "gateway") (Bare (address_kind gateway))
+    ∷ field (codes "public key") (key_kind algorithm) ∷ []
 
--- RFC 8777 4
-abbrev pub amtrelay_fields : List TouchingItem → List NamedField
-amtrelay_fields items =
+abbrev pub ipseckey_fields : List TouchingItem → List NamedField
+ipseckey_fields items = ipseckey_by (number_at items 1) (number_at items 2)
+
+-- those of AMTRELAY by whether its discovery is optional, 1 or 0, and the type of its relay (RFC
+-- 8777 4)
+abbrev pub amtrelay_by : Option ℕ → Option ℕ → List NamedField
+amtrelay_by discovery relay =
     field (codes "precedence") (Bare U8) ∷ field (codes "discovery optional") (Bare Discovery)
-    ∷ field (codes "type") (Bare (AddressType (is_one (number_at items 1))))
-    ∷ field (codes "relay") (Bare (address_kind (number_at items 2))) ∷ []
+    ∷ field (codes "type") (Bare (AddressType (is_one discovery)))
+    ∷ field (codes "relay") (Bare (address_kind relay)) ∷ []
+
+abbrev pub amtrelay_fields : List TouchingItem → List NamedField
+amtrelay_fields items = amtrelay_by (number_at items 1) (number_at items 2)
 
 -- ---- fields whose octets stand in another order
 
@@ -119,10 +133,26 @@ fields_in of_hip items = hip_fields
 
 -- ---- the table
 
-abbrev pub further_types : List FurtherType
-further_types =
-    in_every 13 (codes "HINFO")  -- RFC 1035 3.3.2
+-- the registered types (RFC 6895 3.1), their numbers ascending
+abbrev pub type_registry : List RegisteredType
+type_registry =
+    name_only 1 (codes "A")
+    ∷ name_only 2 (codes "NS")
+    ∷ name_only 3 (codes "MD")
+    ∷ name_only 4 (codes "MF")
+    ∷ name_only 5 (codes "CNAME")
+    ∷ name_only 6 (codes "SOA")
+    ∷ name_only 7 (codes "MB")
+    ∷ name_only 8 (codes "MG")
+    ∷ name_only 9 (codes "MR")
+    ∷ name_only 10 (codes "NULL")
+    ∷ name_only 11 (codes "WKS")
+    ∷ name_only 12 (codes "PTR")
+    ∷ in_every 13 (codes "HINFO")  -- RFC 1035 3.3.2
     (field (codes "cpu") OneString ∷ field (codes "os") OneString ∷ [])
+    ∷ name_only 14 (codes "MINFO")
+    ∷ name_only 15 (codes "MX")
+    ∷ name_only 16 (codes "TXT")
     ∷ in_every 17 (codes "RP")  -- RFC 1183 2.2
     (field (codes "mailbox") (Bare Name) ∷ field (codes "text") (Bare Name) ∷ [])
     ∷ in_every 18 (codes "AFSDB")  -- RFC 1183 1
@@ -132,13 +162,28 @@ further_types =
     (field (codes "isdn-address") OneString ∷ field (codes "sa") PerhapsOneString ∷ [])
     ∷ in_every 21 (codes "RT")  -- RFC 1183 3.3
     (field (codes "preference") (Bare U16) ∷ field (codes "host") (Bare Name) ∷ [])
+    ∷ name_only 22 (codes "NSAP")
+    ∷ name_only 23 (codes "NSAP-PTR")
+    ∷ name_only 24 (codes "SIG")
+    ∷ name_only 25 (codes "KEY")
+    ∷ name_only 26 (codes "PX")
+    ∷ name_only 27 (codes "GPOS")
+    ∷ name_only 28 (codes "AAAA")
     ∷ in_every 29 (codes "LOC") (field (codes "data") Location ∷ [])  -- RFC 1876 3
+    ∷ name_only 30 (codes "NXT")
+    ∷ name_only 31 (codes "EID")
+    ∷ name_only 32 (codes "NIMLOC")
+    ∷ name_only 33 (codes "SRV")
+    ∷ name_only 34 (codes "ATMA")
+    ∷ name_only 35 (codes "NAPTR")
     ∷ in_internet 36 (codes "KX")  -- RFC 2230 3.1
     (field (codes "preference") (Bare U16) ∷ field (codes "exchanger") (Bare Name) ∷ [])
     ∷ in_every 37 (codes "CERT")  -- RFC 4398 2.2
     (field (codes "type") (Bare CertificateType) ∷ field (codes "key tag") (Bare U16)
     ∷ field (codes "algorithm") (Bare Algorithm) ∷ field (codes "certificate") Base64 ∷ [])
+    ∷ name_only 38 (codes "A6")
     ∷ in_every 39 (codes "DNAME") (field (codes "target") (Bare Name) ∷ [])  -- RFC 6672 2.1
+    ∷ name_only 40 (codes "SINK")
     ∷ in_internet 42 (codes "APL") (field (codes "data") Prefixes ∷ [])  -- RFC 3123 4, 5
     ∷ in_every 43 (codes "DS")  -- RFC 4034 5.3
     (field (codes "key tag") (Bare U16) ∷ field (codes "algorithm") (Bare Algorithm)
@@ -173,6 +218,9 @@ further_types =
     (field (codes "usage") (Bare U8) ∷ field (codes "selector") (Bare U8)
     ∷ field (codes "matching type") (Bare U8) ∷ field (codes "data") Hex ∷ [])
     ∷ of_its_own 55 (codes "HIP") of_hip
+    ∷ name_only 56 (codes "NINFO")
+    ∷ name_only 57 (codes "RKEY")
+    ∷ name_only 58 (codes "TALINK")
     ∷ in_every 59 (codes "CDS")  -- RFC 7344 3.1
     (field (codes "key tag") (Bare U16) ∷ field (codes "algorithm") (Bare Algorithm)
     ∷ field (codes "digest type") (Bare U8) ∷ field (codes "digest") Hex ∷ [])
@@ -192,7 +240,14 @@ further_types =
     ∷ in_internet 65 (codes "HTTPS")  -- RFC 9460 9
     (field (codes "priority") (Bare U16) ∷ field (codes "target") (Bare Name)
     ∷ field (codes "parameters") Parameters ∷ [])
+    ∷ name_only 66 (codes "DSYNC")
+    ∷ name_only 67 (codes "HHIT")
+    ∷ name_only 68 (codes "BRID")
     ∷ in_every 99 (codes "SPF") (field (codes "data") Strings ∷ [])  -- RFC 4408 3.1.1
+    ∷ name_only 100 (codes "UINFO")
+    ∷ name_only 101 (codes "UID")
+    ∷ name_only 102 (codes "GID")
+    ∷ name_only 103 (codes "UNSPEC")
     ∷ in_every 104 (codes "NID")  -- RFC 6742 2.1
     (field (codes "preference") (Bare U16) ∷ field (codes "nodeid") (Bare NodeId) ∷ [])
     ∷ in_every 105 (codes "L32")  -- RFC 6742 2.2
@@ -209,8 +264,37 @@ further_types =
     ∷ in_every 257 (codes "CAA")  -- RFC 8659 4.1.1
     (field (codes "flags") (Bare U8) ∷ field (codes "tag") (Bare Tag)
     ∷ field (codes "value") Value ∷ [])
+    ∷ name_only 258 (codes "AVC")
+    ∷ name_only 259 (codes "DOA")
     ∷ of_its_own 260 (codes "AMTRELAY") of_amtrelay
+    ∷ name_only 261 (codes "RESINFO")
+    ∷ name_only 262 (codes "WALLET")
+    ∷ name_only 263 (codes "CLA")
+    ∷ name_only 264 (codes "IPN")
+    ∷ name_only 32768 (codes "TA")
+    ∷ name_only 32769 (codes "DLV")
     ∷ []
+
+-- their numbers and mnemonics
+abbrev pub named : RegisteredType → Named
+named (in_words f) = record { number = f.number; mnemonic = f.mnemonic }
+named (name_only number mnemonic) = record { number = number; mnemonic = mnemonic }
+
+abbrev pub registered_types : List Named
+registered_types = map named type_registry
+
+-- the further types among them
+abbrev pub further_in : RegisteredType → Option FurtherType
+further_in (in_words f) = Some f
+further_in (name_only number mnemonic) = None
+
+abbrev pub further_types : List FurtherType
+further_types = filter_map further_in type_registry
+
+-- the numbers and mnemonics of these
+abbrev pub further_names : List Named
+further_names =
+    map (λ (f : FurtherType). record { number = f.number; mnemonic = f.mnemonic }) further_types
 
 -- the rows of the code are these
 abbrev pub field_of : Field → NamedField
@@ -231,13 +315,9 @@ further_of row =
       fields = of_code row.fields;
     }
 
-abbrev pub name_of : code.FurtherType → Named
-name_of row = record { number = row.number; mnemonic = row.mnemonic.now }
-
--- their numbers and mnemonics
-abbrev pub further_names : List Named
-further_names =
-    map (λ (f : FurtherType). record { number = f.number; mnemonic = f.mnemonic }) further_types
+abbrev pub registered_of : coded_types.RegisteredType → RegisteredType
+registered_of (coded_type.InWords row) = in_words (further_of row)
+registered_of (coded_type.NameOnly number mnemonic) = name_only number mnemonic.now
 
 -- the further type of a number
 abbrev pub further_type : ℕ → Option FurtherType

@@ -3,8 +3,10 @@ ghost use Rattle.std.specs.Prelude.{◌≡◌, IfSome, IfNone, map, option_map};
 ghost use Rattle.zone_name.specs.Common.{NothingIs};
 ghost use Rattle.zone_rdata.specs.Words.{IsKind};
 ghost use Rattle.zone_rdata.specs.Table.{mnemonic_among};
-ghost use Rattle.zone_words.specs.Mnemonics.{IsTypeWord, certificate_types, name_of, registered_types};
+ghost use Rattle.zone_words.specs.Mnemonics.{IsTypeWord, certificate_types};
+ghost use Rattle.zone_words.specs.Table.{registered_types};
 
+use crate::table::TYPES;
 use zone_rdata::{Kind, Row, number_of_word, row_of};
 
 /// A number and its mnemonic.
@@ -66,107 +68,15 @@ pub fn certificate_mnemonic(number: u16) -> Option<&'static [u8]>
 }
 
 /// The mnemonic of a number among rows.
-fn mnemonic_in(rows: &'static [Mnemonic], number: u16) -> Option<&'static [u8]>
+fn mnemonic_in<R: Row>(rows: &'static [R], number: u16) -> Option<&'static [u8]>
     ensures { option_map (λ text. text.now) result
-        ≡ mnemonic_among (map name_of rows.now) number }
+        ≡ mnemonic_among (map R.names rows.now) number }
 {
     match row_of(rows, number) {
-        Some(row) => Some(row.1),
+        Some(row) => Some(row.mnemonic()),
         None => None,
     }
 }
-
-/// The registered types (RFC 6895 3.1).
-pub(crate) static TYPES: &[Mnemonic] = &[
-    Mnemonic(1, b"A"),
-    Mnemonic(2, b"NS"),
-    Mnemonic(3, b"MD"),
-    Mnemonic(4, b"MF"),
-    Mnemonic(5, b"CNAME"),
-    Mnemonic(6, b"SOA"),
-    Mnemonic(7, b"MB"),
-    Mnemonic(8, b"MG"),
-    Mnemonic(9, b"MR"),
-    Mnemonic(10, b"NULL"),
-    Mnemonic(11, b"WKS"),
-    Mnemonic(12, b"PTR"),
-    Mnemonic(13, b"HINFO"),
-    Mnemonic(14, b"MINFO"),
-    Mnemonic(15, b"MX"),
-    Mnemonic(16, b"TXT"),
-    Mnemonic(17, b"RP"),
-    Mnemonic(18, b"AFSDB"),
-    Mnemonic(19, b"X25"),
-    Mnemonic(20, b"ISDN"),
-    Mnemonic(21, b"RT"),
-    Mnemonic(22, b"NSAP"),
-    Mnemonic(23, b"NSAP-PTR"),
-    Mnemonic(24, b"SIG"),
-    Mnemonic(25, b"KEY"),
-    Mnemonic(26, b"PX"),
-    Mnemonic(27, b"GPOS"),
-    Mnemonic(28, b"AAAA"),
-    Mnemonic(29, b"LOC"),
-    Mnemonic(30, b"NXT"),
-    Mnemonic(31, b"EID"),
-    Mnemonic(32, b"NIMLOC"),
-    Mnemonic(33, b"SRV"),
-    Mnemonic(34, b"ATMA"),
-    Mnemonic(35, b"NAPTR"),
-    Mnemonic(36, b"KX"),
-    Mnemonic(37, b"CERT"),
-    Mnemonic(38, b"A6"),
-    Mnemonic(39, b"DNAME"),
-    Mnemonic(40, b"SINK"),
-    Mnemonic(42, b"APL"),
-    Mnemonic(43, b"DS"),
-    Mnemonic(44, b"SSHFP"),
-    Mnemonic(45, b"IPSECKEY"),
-    Mnemonic(46, b"RRSIG"),
-    Mnemonic(47, b"NSEC"),
-    Mnemonic(48, b"DNSKEY"),
-    Mnemonic(49, b"DHCID"),
-    Mnemonic(50, b"NSEC3"),
-    Mnemonic(51, b"NSEC3PARAM"),
-    Mnemonic(52, b"TLSA"),
-    Mnemonic(53, b"SMIMEA"),
-    Mnemonic(55, b"HIP"),
-    Mnemonic(56, b"NINFO"),
-    Mnemonic(57, b"RKEY"),
-    Mnemonic(58, b"TALINK"),
-    Mnemonic(59, b"CDS"),
-    Mnemonic(60, b"CDNSKEY"),
-    Mnemonic(61, b"OPENPGPKEY"),
-    Mnemonic(62, b"CSYNC"),
-    Mnemonic(63, b"ZONEMD"),
-    Mnemonic(64, b"SVCB"),
-    Mnemonic(65, b"HTTPS"),
-    Mnemonic(66, b"DSYNC"),
-    Mnemonic(67, b"HHIT"),
-    Mnemonic(68, b"BRID"),
-    Mnemonic(99, b"SPF"),
-    Mnemonic(100, b"UINFO"),
-    Mnemonic(101, b"UID"),
-    Mnemonic(102, b"GID"),
-    Mnemonic(103, b"UNSPEC"),
-    Mnemonic(104, b"NID"),
-    Mnemonic(105, b"L32"),
-    Mnemonic(106, b"L64"),
-    Mnemonic(107, b"LP"),
-    Mnemonic(108, b"EUI48"),
-    Mnemonic(109, b"EUI64"),
-    Mnemonic(256, b"URI"),
-    Mnemonic(257, b"CAA"),
-    Mnemonic(258, b"AVC"),
-    Mnemonic(259, b"DOA"),
-    Mnemonic(260, b"AMTRELAY"),
-    Mnemonic(261, b"RESINFO"),
-    Mnemonic(262, b"WALLET"),
-    Mnemonic(263, b"CLA"),
-    Mnemonic(264, b"IPN"),
-    Mnemonic(32768, b"TA"),
-    Mnemonic(32769, b"DLV"),
-];
 
 /// The algorithms of DNSSEC (RFC 4034 A.1).
 pub(crate) static ALGORITHMS: &[Mnemonic] = &[

@@ -1,11 +1,13 @@
-//! The further types, a row each, their numbers ascending, with the section of the RFC that gives
-//! the words of each.
-ghost use Rattle.std.specs.Prelude.{◌≡◌, IfSome, IfNone, codes, option_copied};
+//! The registered types, a row each, their numbers ascending: the further types, with the section
+//! of the RFC that gives the words of each, and the rest, which stand in data alone.
+ghost use Rattle.std.specs.List.{find};
+ghost use Rattle.std.specs.Prelude.{◌≡◌, ◌==◌, IfSome, IfNone, codes, filter_map, map, option_copied, true};
 ghost use Rattle.std.specs.Option.{option_map};
 ghost use Rattle.zone_name.specs.Common.{NothingIs};
 ghost use Rattle.zone_rdata.specs.Number.{IsCapped};
+ghost use Rattle.zone_rdata.specs.Table.{ascends};
 ghost use Rattle.zone_rdata.specs.Words.{IsWordAmong};
-ghost use Rattle.zone_words.specs.Table.{IsFurtherWord, further_names, further_of, further_type};
+ghost use Rattle.zone_words.specs.Table.{IsFurtherWord, further_in, further_of, further_type, named, registered_of};
 
 use crate::field::BareKind::{
     Algorithm, CertificateType, Eui48, Eui64, Hash, Ipv4, Name, NodeId, RecordType, Salt, Tag,
@@ -17,6 +19,7 @@ use crate::field::FieldKind::{
     QuotedValue, Strings, Types, Value,
 };
 use crate::fields::Fields::{self, Amtrelay, Hip, Ipseckey, Same};
+use RegisteredType::{InWords, NameOnly};
 use zone_rdata::{Row, number_of_word, row_of};
 
 /// A type whose data is read in words here.
@@ -31,17 +34,42 @@ pub struct FurtherType {
     pub fields: Fields,
 }
 
-impl Row for FurtherType {
-    ghost use Rattle.zone_words.specs.Table.{name_of};
+/// A registered type.
+pub(crate) enum RegisteredType {
+    /// One whose data is read in words here.
+    InWords(FurtherType),
+    /// One that stands in data alone: its number and its mnemonic, in upper case.
+    NameOnly(u16, &'static str),
+}
 
-    ghost names = { name_of };
+impl Row for RegisteredType {
+    ghost names = { λ row. named (registered_of row) };
 
     fn number(&self) -> u16 {
-        self.number
+        match self {
+            InWords(further) => further.number,
+            NameOnly(number, _) => *number,
+        }
     }
 
     fn mnemonic(&self) -> &'static [u8] {
-        self.mnemonic.as_bytes()
+        match self {
+            InWords(further) => further.mnemonic.as_bytes(),
+            NameOnly(_, mnemonic) => mnemonic.as_bytes(),
+        }
+    }
+}
+
+impl RegisteredType {
+    /// The further type that it is. `None`: its data has no words here.
+    fn further(&self) -> Option<&FurtherType>
+        ensures { option_map further_of (option_copied result)
+            ≡ further_in (registered_of self.now) }
+    {
+        match self {
+            InWords(further) => Some(further),
+            NameOnly(..) => None,
+        }
     }
 }
 
@@ -49,7 +77,19 @@ impl Row for FurtherType {
 pub(crate) fn further_type_numbered(number: u16) -> Option<&'static FurtherType>
     ensures { option_map further_of (option_copied result) ≡ further_type number }
 {
-    row_of(FURTHER_TYPES, number)
+    further_among(TYPES, number)
+}
+
+/// The further type of a number among rows. `None`: it is that of none.
+fn further_among(rows: &'static [RegisteredType], number: u16) -> Option<&'static FurtherType>
+    requires { ascends (map named (map registered_of rows.now)) ≡ true }
+    ensures { option_map further_of (option_copied result)
+        ≡ find (λ f. number == f.number) (filter_map further_in (map registered_of rows.now)) }
+{
+    match row_of(rows, number) {
+        Some(row) => row.further(),
+        None => None,
+    }
 }
 
 /// The further type of a word in any letter case: its mnemonic, or TYPE with its number (RFC 3597
@@ -58,7 +98,7 @@ pub fn further_type_of(word: &[u8]) -> Option<&'static FurtherType>
     ensures found { IfSome result (λ row. IsFurtherWord word.now (further_of row.now)) }
     ensures none { IfNone result (NothingIs (IsFurtherWord word.now)) }
 {
-    match number_of_word(FURTHER_TYPES, b"TYPE", word) {
+    match number_of_word(TYPES, b"TYPE", word) {
         Some(number) => further_type_counted(number),
         None => None,
     }
@@ -74,174 +114,226 @@ fn further_type_counted(number: u64) -> Option<&'static FurtherType>
     }
 }
 
-/// The types. The definitions have the same rows.
+/// The registered types (RFC 6895 3.1). The definitions have the same rows.
 #[rattlefmt::skip]
-pub(crate) static FURTHER_TYPES: &[FurtherType] = &[
+pub(crate) static TYPES: &[RegisteredType] = &[
+    NameOnly(1, "A"),
+    NameOnly(2, "NS"),
+    NameOnly(3, "MD"),
+    NameOnly(4, "MF"),
+    NameOnly(5, "CNAME"),
+    NameOnly(6, "SOA"),
+    NameOnly(7, "MB"),
+    NameOnly(8, "MG"),
+    NameOnly(9, "MR"),
+    NameOnly(10, "NULL"),
+    NameOnly(11, "WKS"),
+    NameOnly(12, "PTR"),
     // RFC 1035 3.3.2
-    FurtherType { number: 13, mnemonic: "HINFO", in_internet_alone: false, fields: Same(&[
+    InWords(FurtherType { number: 13, mnemonic: "HINFO", in_internet_alone: false, fields: Same(&[
         Field("cpu", OneString), Field("os", OneString),
-    ]) },
+    ]) }),
+    NameOnly(14, "MINFO"),
+    NameOnly(15, "MX"),
+    NameOnly(16, "TXT"),
     // RFC 1183 2.2
-    FurtherType { number: 17, mnemonic: "RP", in_internet_alone: false, fields: Same(&[
+    InWords(FurtherType { number: 17, mnemonic: "RP", in_internet_alone: false, fields: Same(&[
         Field("mailbox", Bare(Name)), Field("text", Bare(Name)),
-    ]) },
+    ]) }),
     // RFC 1183 1
-    FurtherType { number: 18, mnemonic: "AFSDB", in_internet_alone: false, fields: Same(&[
+    InWords(FurtherType { number: 18, mnemonic: "AFSDB", in_internet_alone: false, fields: Same(&[
         Field("subtype", Bare(U16)), Field("host", Bare(Name)),
-    ]) },
+    ]) }),
     // RFC 1183 3.1
-    FurtherType { number: 19, mnemonic: "X25", in_internet_alone: false, fields: Same(&[
+    InWords(FurtherType { number: 19, mnemonic: "X25", in_internet_alone: false, fields: Same(&[
         Field("psdn-address", OneString),
-    ]) },
+    ]) }),
     // RFC 1183 3.2
-    FurtherType { number: 20, mnemonic: "ISDN", in_internet_alone: false, fields: Same(&[
+    InWords(FurtherType { number: 20, mnemonic: "ISDN", in_internet_alone: false, fields: Same(&[
         Field("isdn-address", OneString), Field("sa", PerhapsOneString),
-    ]) },
+    ]) }),
     // RFC 1183 3.3
-    FurtherType { number: 21, mnemonic: "RT", in_internet_alone: false, fields: Same(&[
+    InWords(FurtherType { number: 21, mnemonic: "RT", in_internet_alone: false, fields: Same(&[
         Field("preference", Bare(U16)), Field("host", Bare(Name)),
-    ]) },
+    ]) }),
+    NameOnly(22, "NSAP"),
+    NameOnly(23, "NSAP-PTR"),
+    NameOnly(24, "SIG"),
+    NameOnly(25, "KEY"),
+    NameOnly(26, "PX"),
+    NameOnly(27, "GPOS"),
+    NameOnly(28, "AAAA"),
     // RFC 1876 3
-    FurtherType { number: 29, mnemonic: "LOC", in_internet_alone: false, fields: Same(&[
+    InWords(FurtherType { number: 29, mnemonic: "LOC", in_internet_alone: false, fields: Same(&[
         Field("data", Location),
-    ]) },
+    ]) }),
+    NameOnly(30, "NXT"),
+    NameOnly(31, "EID"),
+    NameOnly(32, "NIMLOC"),
+    NameOnly(33, "SRV"),
+    NameOnly(34, "ATMA"),
+    NameOnly(35, "NAPTR"),
     // RFC 2230 3.1
-    FurtherType { number: 36, mnemonic: "KX", in_internet_alone: true, fields: Same(&[
+    InWords(FurtherType { number: 36, mnemonic: "KX", in_internet_alone: true, fields: Same(&[
         Field("preference", Bare(U16)), Field("exchanger", Bare(Name)),
-    ]) },
+    ]) }),
     // RFC 4398 2.2
-    FurtherType { number: 37, mnemonic: "CERT", in_internet_alone: false, fields: Same(&[
+    InWords(FurtherType { number: 37, mnemonic: "CERT", in_internet_alone: false, fields: Same(&[
         Field("type", Bare(CertificateType)), Field("key tag", Bare(U16)),
         Field("algorithm", Bare(Algorithm)), Field("certificate", Base64),
-    ]) },
+    ]) }),
+    NameOnly(38, "A6"),
     // RFC 6672 2.1
-    FurtherType { number: 39, mnemonic: "DNAME", in_internet_alone: false, fields: Same(&[
+    InWords(FurtherType { number: 39, mnemonic: "DNAME", in_internet_alone: false, fields: Same(&[
         Field("target", Bare(Name)),
-    ]) },
+    ]) }),
+    NameOnly(40, "SINK"),
     // RFC 3123 4, 5
-    FurtherType { number: 42, mnemonic: "APL", in_internet_alone: true, fields: Same(&[
+    InWords(FurtherType { number: 42, mnemonic: "APL", in_internet_alone: true, fields: Same(&[
         Field("data", Prefixes),
-    ]) },
+    ]) }),
     // RFC 4034 5.3
-    FurtherType { number: 43, mnemonic: "DS", in_internet_alone: false, fields: Same(&[
+    InWords(FurtherType { number: 43, mnemonic: "DS", in_internet_alone: false, fields: Same(&[
         Field("key tag", Bare(U16)), Field("algorithm", Bare(Algorithm)),
         Field("digest type", Bare(U8)), Field("digest", Hex),
-    ]) },
+    ]) }),
     // RFC 4255 3.2
-    FurtherType { number: 44, mnemonic: "SSHFP", in_internet_alone: false, fields: Same(&[
+    InWords(FurtherType { number: 44, mnemonic: "SSHFP", in_internet_alone: false, fields: Same(&[
         Field("algorithm", Bare(U8)), Field("type", Bare(U8)), Field("fingerprint", Hex),
-    ]) },
+    ]) }),
     // RFC 4025 3
-    FurtherType { number: 45, mnemonic: "IPSECKEY", in_internet_alone: false, fields: Ipseckey },
+    InWords(FurtherType { number: 45, mnemonic: "IPSECKEY", in_internet_alone: false,
+        fields: Ipseckey }),
     // RFC 4034 3.2
-    FurtherType { number: 46, mnemonic: "RRSIG", in_internet_alone: false, fields: Same(&[
+    InWords(FurtherType { number: 46, mnemonic: "RRSIG", in_internet_alone: false, fields: Same(&[
         Field("type covered", Bare(RecordType)), Field("algorithm", Bare(Algorithm)),
         Field("labels", Bare(U8)), Field("original ttl", Bare(U32)),
         Field("expiration", Bare(Time)), Field("inception", Bare(Time)),
         Field("key tag", Bare(U16)), Field("signer", Bare(Name)), Field("signature", Base64),
-    ]) },
+    ]) }),
     // RFC 4034 4.2
-    FurtherType { number: 47, mnemonic: "NSEC", in_internet_alone: false, fields: Same(&[
+    InWords(FurtherType { number: 47, mnemonic: "NSEC", in_internet_alone: false, fields: Same(&[
         Field("next", Bare(Name)), Field("types", Types),
-    ]) },
+    ]) }),
     // RFC 4034 2.2
-    FurtherType { number: 48, mnemonic: "DNSKEY", in_internet_alone: false, fields: Same(&[
+    InWords(FurtherType { number: 48, mnemonic: "DNSKEY", in_internet_alone: false, fields: Same(&[
         Field("flags", Bare(U16)), Field("protocol", Bare(U8)), Field("algorithm", Bare(Algorithm)),
         Field("public key", Base64),
-    ]) },
+    ]) }),
     // RFC 4701 3.2
-    FurtherType { number: 49, mnemonic: "DHCID", in_internet_alone: true, fields: Same(&[
+    InWords(FurtherType { number: 49, mnemonic: "DHCID", in_internet_alone: true, fields: Same(&[
         Field("data", Base64),
-    ]) },
+    ]) }),
     // RFC 5155 3.3
-    FurtherType { number: 50, mnemonic: "NSEC3", in_internet_alone: false, fields: Same(&[
+    InWords(FurtherType { number: 50, mnemonic: "NSEC3", in_internet_alone: false, fields: Same(&[
         Field("hash algorithm", Bare(U8)), Field("flags", Bare(U8)), Field("iterations", Bare(U16)),
         Field("salt", Bare(Salt)), Field("next", Bare(Hash)), Field("types", PerhapsTypes),
-    ]) },
+    ]) }),
     // RFC 5155 4.3
-    FurtherType { number: 51, mnemonic: "NSEC3PARAM", in_internet_alone: false, fields: Same(&[
+    InWords(FurtherType { number: 51, mnemonic: "NSEC3PARAM", in_internet_alone: false,
+        fields: Same(&[
         Field("hash algorithm", Bare(U8)), Field("flags", Bare(U8)), Field("iterations", Bare(U16)),
         Field("salt", Bare(Salt)),
-    ]) },
+    ]) }),
     // RFC 6698 2.2
-    FurtherType { number: 52, mnemonic: "TLSA", in_internet_alone: false, fields: Same(&[
+    InWords(FurtherType { number: 52, mnemonic: "TLSA", in_internet_alone: false, fields: Same(&[
         Field("usage", Bare(U8)), Field("selector", Bare(U8)), Field("matching type", Bare(U8)),
         Field("data", Hex),
-    ]) },
+    ]) }),
     // RFC 8162 2
-    FurtherType { number: 53, mnemonic: "SMIMEA", in_internet_alone: false, fields: Same(&[
+    InWords(FurtherType { number: 53, mnemonic: "SMIMEA", in_internet_alone: false, fields: Same(&[
         Field("usage", Bare(U8)), Field("selector", Bare(U8)), Field("matching type", Bare(U8)),
         Field("data", Hex),
-    ]) },
+    ]) }),
     // RFC 8005 6
-    FurtherType { number: 55, mnemonic: "HIP", in_internet_alone: false, fields: Hip },
+    InWords(FurtherType { number: 55, mnemonic: "HIP", in_internet_alone: false, fields: Hip }),
+    NameOnly(56, "NINFO"),
+    NameOnly(57, "RKEY"),
+    NameOnly(58, "TALINK"),
     // RFC 7344 3.1
-    FurtherType { number: 59, mnemonic: "CDS", in_internet_alone: false, fields: Same(&[
+    InWords(FurtherType { number: 59, mnemonic: "CDS", in_internet_alone: false, fields: Same(&[
         Field("key tag", Bare(U16)), Field("algorithm", Bare(Algorithm)),
         Field("digest type", Bare(U8)), Field("digest", Hex),
-    ]) },
+    ]) }),
     // RFC 7344 3.2
-    FurtherType { number: 60, mnemonic: "CDNSKEY", in_internet_alone: false, fields: Same(&[
+    InWords(FurtherType { number: 60, mnemonic: "CDNSKEY", in_internet_alone: false, fields: Same(&[
         Field("flags", Bare(U16)), Field("protocol", Bare(U8)), Field("algorithm", Bare(Algorithm)),
         Field("public key", Base64),
-    ]) },
+    ]) }),
     // RFC 7929 2.3
-    FurtherType { number: 61, mnemonic: "OPENPGPKEY", in_internet_alone: false, fields: Same(&[
+    InWords(FurtherType { number: 61, mnemonic: "OPENPGPKEY", in_internet_alone: false,
+        fields: Same(&[
         Field("key", Base64),
-    ]) },
+    ]) }),
     // RFC 7477 2.1.2
-    FurtherType { number: 62, mnemonic: "CSYNC", in_internet_alone: false, fields: Same(&[
+    InWords(FurtherType { number: 62, mnemonic: "CSYNC", in_internet_alone: false, fields: Same(&[
         Field("serial", Bare(U32)), Field("flags", Bare(U16)), Field("types", PerhapsTypes),
-    ]) },
+    ]) }),
     // RFC 8976 2.3
-    FurtherType { number: 63, mnemonic: "ZONEMD", in_internet_alone: false, fields: Same(&[
+    InWords(FurtherType { number: 63, mnemonic: "ZONEMD", in_internet_alone: false, fields: Same(&[
         Field("serial", Bare(U32)), Field("scheme", Bare(U8)), Field("hash algorithm", Bare(U8)),
         Field("digest", Hex),
-    ]) },
+    ]) }),
     // RFC 9460 2.1
-    FurtherType { number: 64, mnemonic: "SVCB", in_internet_alone: true, fields: Same(&[
+    InWords(FurtherType { number: 64, mnemonic: "SVCB", in_internet_alone: true, fields: Same(&[
         Field("priority", Bare(U16)), Field("target", Bare(Name)), Field("parameters", Parameters),
-    ]) },
+    ]) }),
     // RFC 9460 9
-    FurtherType { number: 65, mnemonic: "HTTPS", in_internet_alone: true, fields: Same(&[
+    InWords(FurtherType { number: 65, mnemonic: "HTTPS", in_internet_alone: true, fields: Same(&[
         Field("priority", Bare(U16)), Field("target", Bare(Name)), Field("parameters", Parameters),
-    ]) },
+    ]) }),
+    NameOnly(66, "DSYNC"),
+    NameOnly(67, "HHIT"),
+    NameOnly(68, "BRID"),
     // RFC 4408 3.1.1
-    FurtherType { number: 99, mnemonic: "SPF", in_internet_alone: false, fields: Same(&[
+    InWords(FurtherType { number: 99, mnemonic: "SPF", in_internet_alone: false, fields: Same(&[
         Field("data", Strings),
-    ]) },
+    ]) }),
+    NameOnly(100, "UINFO"),
+    NameOnly(101, "UID"),
+    NameOnly(102, "GID"),
+    NameOnly(103, "UNSPEC"),
     // RFC 6742 2.1
-    FurtherType { number: 104, mnemonic: "NID", in_internet_alone: false, fields: Same(&[
+    InWords(FurtherType { number: 104, mnemonic: "NID", in_internet_alone: false, fields: Same(&[
         Field("preference", Bare(U16)), Field("nodeid", Bare(NodeId)),
-    ]) },
+    ]) }),
     // RFC 6742 2.2
-    FurtherType { number: 105, mnemonic: "L32", in_internet_alone: false, fields: Same(&[
+    InWords(FurtherType { number: 105, mnemonic: "L32", in_internet_alone: false, fields: Same(&[
         Field("preference", Bare(U16)), Field("locator32", Bare(Ipv4)),
-    ]) },
+    ]) }),
     // RFC 6742 2.3
-    FurtherType { number: 106, mnemonic: "L64", in_internet_alone: false, fields: Same(&[
+    InWords(FurtherType { number: 106, mnemonic: "L64", in_internet_alone: false, fields: Same(&[
         Field("preference", Bare(U16)), Field("locator64", Bare(NodeId)),
-    ]) },
+    ]) }),
     // RFC 6742 2.4
-    FurtherType { number: 107, mnemonic: "LP", in_internet_alone: false, fields: Same(&[
+    InWords(FurtherType { number: 107, mnemonic: "LP", in_internet_alone: false, fields: Same(&[
         Field("preference", Bare(U16)), Field("fqdn", Bare(Name)),
-    ]) },
+    ]) }),
     // RFC 7043 3.2
-    FurtherType { number: 108, mnemonic: "EUI48", in_internet_alone: false, fields: Same(&[
+    InWords(FurtherType { number: 108, mnemonic: "EUI48", in_internet_alone: false, fields: Same(&[
         Field("address", Bare(Eui48)),
-    ]) },
+    ]) }),
     // RFC 7043 4.2
-    FurtherType { number: 109, mnemonic: "EUI64", in_internet_alone: false, fields: Same(&[
+    InWords(FurtherType { number: 109, mnemonic: "EUI64", in_internet_alone: false, fields: Same(&[
         Field("address", Bare(Eui64)),
-    ]) },
+    ]) }),
     // RFC 7553 4.4
-    FurtherType { number: 256, mnemonic: "URI", in_internet_alone: false, fields: Same(&[
+    InWords(FurtherType { number: 256, mnemonic: "URI", in_internet_alone: false, fields: Same(&[
         Field("priority", Bare(U16)), Field("weight", Bare(U16)), Field("target", QuotedValue),
-    ]) },
+    ]) }),
     // RFC 8659 4.1.1
-    FurtherType { number: 257, mnemonic: "CAA", in_internet_alone: false, fields: Same(&[
+    InWords(FurtherType { number: 257, mnemonic: "CAA", in_internet_alone: false, fields: Same(&[
         Field("flags", Bare(U8)), Field("tag", Bare(Tag)), Field("value", Value),
-    ]) },
+    ]) }),
+    NameOnly(258, "AVC"),
+    NameOnly(259, "DOA"),
     // RFC 8777 4.3
-    FurtherType { number: 260, mnemonic: "AMTRELAY", in_internet_alone: false, fields: Amtrelay },
+    InWords(FurtherType { number: 260, mnemonic: "AMTRELAY", in_internet_alone: false,
+        fields: Amtrelay }),
+    NameOnly(261, "RESINFO"),
+    NameOnly(262, "WALLET"),
+    NameOnly(263, "CLA"),
+    NameOnly(264, "IPN"),
+    NameOnly(32768, "TA"),
+    NameOnly(32769, "DLV"),
 ];

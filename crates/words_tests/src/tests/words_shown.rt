@@ -197,8 +197,8 @@ impl Question for TextInWords {
     }
 }
 
-/// Lines that stay: of other types, of data that is none of its type, and of a generic form that
-/// isn't the canonical one.
+/// Lines that stay: of other types, of data that is none of its type, of a generic form that isn't
+/// the canonical one, and of strings that look like a type and its data.
 const STAY: &str = "\
 a. 3600 IN A 10.0.0.1
 a. 3600 IN TXT \"\\\\# 4 0a000001\"
@@ -234,6 +234,7 @@ a. 3600 IN TYPE42 \\# 6 00031002c0a8
 a. 3600 IN TYPE42 \\# 5 00011502c0
 a. 3600 IN TYPE29 \\# 16 0133161389172dd070be15f000988d20
 a. 3600 IN DS 1 8 2 00
+a. 3600 IN TXT IN TYPE43 \\# 5 0001080200
 
 ";
 
@@ -261,6 +262,9 @@ IN TYPE43 \\# 5 0001080200
 IN DS 1 8 2 00
 ! x y\tCH DS 1 8 2 00
 == a. 3600 IN TYPE43 \\# 5 0001080200=>a. 3600 IN DS 1 8 2 00\
+== a\\.b. 1H IN TYPE43 \\# 5 0001080200
+a. ( 3600 ) IN TYPE43 \\# 5 0001080200=>a\\.b. 1H IN DS 1 8 2 00
+a. ( 3600 ) IN DS 1 8 2 00\
 == > a. 3600 IN A 10.0.0.1
 > a. 3600 IN TYPE43 \\# 5 0001080200=>> a. 3600 IN A 10.0.0.1
 > a. 3600 IN DS 1 8 2 00\

@@ -5,7 +5,8 @@ use Rattle.zone_rdata.specs.Table.{mnemonic_among}
 use Rattle.zone_rdata.specs.Words.{IsKind, word_or_numbered}
 use Rattle.zone_words.specs.Fault.{NothingStated}
 use Rattle.zone_words.specs.Kinds.Number.{IsInOctets, NumberFails, PrintsU8}
-use Rattle.zone_words.specs.Mnemonics.{IsAlgorithm, IsNumberOrMnemonic, IsTypeWord, certificate_types, registered_types}
+use Rattle.zone_words.specs.Mnemonics.{IsAlgorithm, IsNumberOrMnemonic, IsTypeWord, certificate_types}
+use Rattle.zone_words.specs.Table.{registered_types}
 use Rattle.zone_words.specs.declared.fault.WordsFault.{WordsFault}
 use Rattle.zone_words.specs.declared.fault.WordsFault.TheVariants.{NotAType}
 
