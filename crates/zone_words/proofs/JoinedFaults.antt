@@ -1,6 +1,6 @@
 -- A reading of what is written for a file gives the file's records up to the first entry that states
 -- none.
-use Rattle.zone_words.proofs.Common.{AllByRecursion, BecomesUnder, Breaks, Cut, Cuts, EachBecomes, Entry, Fault, IsRewriting, IsToken, Labels, List, Outcome, Refused, Token, [], and_last, ap, count_by, cut_from, cut_not_broken, entry_of, flat_map, None, numbered, one_break, one_cut, refl, Some, statement_of, subst, sum_by-append, sym, text, zero, ℕ, ◌+◌, ◌==◌, ◌∙◌, ◌∷◌, ◌≡◌}
+use Rattle.zone_words.proofs.Common.{Breaks, Cut, Cuts, Entry, Fault, IsRewriting, Labels, List, Outcome, Refused, Token, [], and_last, ap, count_by, cut_from, cut_not_broken, entry_of, flat_map, None, numbered, one_break, one_cut, refl, Some, statement_of, subst, sum_by-append, sym, text, zero, ℕ, ◌+◌, ◌==◌, ◌∙◌, ◌∷◌, ◌≡◌}
 use Rattle.zone_rdata.specs.Record.{Record}
 use Rattle.zone_rdata.specs.declared.fault.Place.TheVariants.{Line}
 use Rattle.zone_rdata.specs.declared.record.Placed.{Placed}
@@ -10,16 +10,13 @@ use Rattle.zone_text.specs.FileReads as file
 use Rattle.zone_text.specs.FileReads.{Ending, FileReads, ReadEach, ReadsFirst}
 use Rattle.zone_text.specs.Records.{EntryStates, StatesNothing}
 use Rattle.zone_words.proofs.JoinedEntries.{ReadsAlike, becomes_alike}
-use Rattle.zone_words.proofs.JoinedFiles.{first_from, leave_itself}
+use Rattle.zone_words.proofs.JoinedFiles.{AreAllTokens, AreBecome, feeds, first_from, leave_itself}
 use Rattle.zone_words.proofs.KeptEntries.{becomes_keeps}
 use Rattle.zone_words.proofs.RewrittenAgain.{each_and_last, each_tokens}
 use Rattle.zone_words.proofs.RewrittenCut.{IsCutBroken, IsCutWhole, cut_broken_text, cut_whole_text, news}
 use Rattle.zone_words.specs.Rewriting as rewriting
 use Rattle.zone_words.specs.WithWords as joined
 use Rattle.zone_words.specs.WithWords.{FileReadsWithWords, LeaveAlike, ReadEachWithWords, ReadsWithWords}
-
-abbrev feeds : List Token → ℕ
-feeds tokens = count_by (λ c. c == 10) (text tokens)
 
 -- an entry with a fault states neither a record nor nothing
 abbrev pub FaultyStatesNone : Type 0
@@ -36,13 +33,7 @@ module _ (no_record : FaultyStatesNone) (not_nothing : FaultyIsSomething) (cased
       (λ r states. no_record origin after (entry_of line new) r fault ((reads.record_is r).1 states) is)
       (λ nothing. not_nothing origin after (entry_of line new) fault (reads.nothing.1 nothing) is) none e
 
-  abbrev AreBecome : List Entry → ℕ → List (List Token) → List Outcome → Type 0
-  AreBecome before line entries outcomes = EachBecomes (BecomesUnder cased) before line entries outcomes
-
-  abbrev AreAllTokens : List (List Token) → Type 0
-  AreAllTokens entries = AllByRecursion (AllByRecursion IsToken) entries
-
-  each_read : (last : Ending) (before after : List Entry) (line : ℕ) (entries : List (List Token)) (outcomes : List Outcome) (placed : List Placed) (ending : Ending) → LeaveAlike origin before after → AreAllTokens entries → AreBecome before line entries outcomes → ReadEach origin last after (numbered line (news outcomes)) placed ending → ReadEachWithWords cased origin last before line entries placed ending
+  each_read : (last : Ending) (before after : List Entry) (line : ℕ) (entries : List (List Token)) (outcomes : List Outcome) (placed : List Placed) (ending : Ending) → LeaveAlike origin before after → AreAllTokens entries → AreBecome cased before line entries outcomes → ReadEach origin last after (numbered line (news outcomes)) placed ending → ReadEachWithWords cased origin last before line entries placed ending
   each_read last before after line [] [] placed ending same each becomes reading = reading
   each_read last before after line [] (o ∷ outcomes) placed ending same each becomes reading = absurd becomes
   each_read last before after line (entry ∷ entries) [] placed ending same each becomes reading = absurd becomes
@@ -56,7 +47,7 @@ module _ (no_record : FaultyStatesNone) (not_nothing : FaultyIsSomething) (cased
   feeds_in : (a : List Token) (b : List (List Token)) → count_by (λ c. c == 10) (flat_map text (a ∷ b)) ≡ feeds a + count_by (λ c. c == 10) (flat_map text b)
   feeds_in a b = sum_by-append _ (text a) (flat_map text b)
 
-  each_feeds : (before : List Entry) (line : ℕ) (entries : List (List Token)) (outcomes : List Outcome) → AreAllTokens entries → AreBecome before line entries outcomes → count_by (λ c. c == 10) (flat_map text (news outcomes)) ≡ count_by (λ c. c == 10) (flat_map text entries)
+  each_feeds : (before : List Entry) (line : ℕ) (entries : List (List Token)) (outcomes : List Outcome) → AreAllTokens entries → AreBecome cased before line entries outcomes → count_by (λ c. c == 10) (flat_map text (news outcomes)) ≡ count_by (λ c. c == 10) (flat_map text entries)
   each_feeds before line [] [] each becomes = refl
   each_feeds before line [] (o ∷ outcomes) each becomes = absurd becomes
   each_feeds before line (entry ∷ entries) [] each becomes = absurd becomes
@@ -67,7 +58,7 @@ module _ (no_record : FaultyStatesNone) (not_nothing : FaultyIsSomething) (cased
 
   -- ---- the whole text
 
-  whole_read : (octets new : List ℕ) (tokens : List Token) (outcomes : List Outcome) (placed : List Placed) (ending : Ending) → Cuts octets tokens → AreBecome [] 1 (and_last (cut_from zero tokens).ended (cut_from zero tokens).open_tokens) outcomes → IsCutWhole tokens outcomes new → FileReads origin new placed ending → FileReadsWithWords cased origin octets placed ending
+  whole_read : (octets new : List ℕ) (tokens : List Token) (outcomes : List Outcome) (placed : List Placed) (ending : Ending) → Cuts octets tokens → AreBecome cased [] 1 (and_last (cut_from zero tokens).ended (cut_from zero tokens).open_tokens) outcomes → IsCutWhole tokens outcomes new → FileReads origin new placed ending → FileReadsWithWords cased origin octets placed ending
   whole_read octets new tokens outcomes placed ending cut each found (file.broken others fault breaks reading) = absurd (cut_not_broken new found.others others fault found.cut breaks)
   whole_read octets new tokens outcomes placed ending cut each found (file.whole others other_cut reading) =
       let all = each_and_last cased (cut_from zero tokens).ended (cut_from zero tokens).open_tokens (each_tokens cased (cut_from zero tokens).ended found.each) found.open_each in
@@ -77,7 +68,7 @@ module _ (no_record : FaultyStatesNone) (not_nothing : FaultyIsSomething) (cased
       (each_read None [] [] 1 _ outcomes placed ending (leave_itself origin []) all each
       (subst (λ t. ReadEach origin None [] (numbered 1 t) placed ending) (sym entries) (subst (λ t. ReadEach origin None [] (entries_of t) placed ending) same reading)))
 
-  broken_read : (octets new rest : List ℕ) (tokens : List Token) (fault : Fault) (outcomes : List Outcome) (placed : List Placed) (ending : Ending) (breaks : Breaks octets tokens fault) → AreBecome [] 1 (cut_from zero tokens).ended outcomes → IsCutBroken tokens fault outcomes new rest breaks.rest → FileReads origin new placed ending → FileReadsWithWords cased origin octets placed ending
+  broken_read : (octets new rest : List ℕ) (tokens : List Token) (fault : Fault) (outcomes : List Outcome) (placed : List Placed) (ending : Ending) (breaks : Breaks octets tokens fault) → AreBecome cased [] 1 (cut_from zero tokens).ended outcomes → IsCutBroken tokens fault outcomes new rest breaks.rest → FileReads origin new placed ending → FileReadsWithWords cased origin octets placed ending
   broken_read octets new rest tokens fault outcomes placed ending breaks each found (file.whole others cut reading) = absurd (cut_not_broken new others found.others fault cut found.breaks)
   broken_read octets new rest tokens fault outcomes placed ending breaks each found (file.broken others f other_breaks reading) =
       let once = one_break new others found.others f fault other_breaks found.breaks in

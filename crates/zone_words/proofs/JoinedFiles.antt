@@ -24,8 +24,16 @@ leave_itself origin before = record {
   minimum = λ seconds. ((λ x. x), (λ x. x));
 }
 
-abbrev feeds : List Token → ℕ
+-- how many line feeds stand in them
+abbrev pub feeds : List Token → ℕ
 feeds tokens = count_by (λ c. c == 10) (text tokens)
+
+abbrev pub AreAllTokens : List (List Token) → Type 0
+AreAllTokens entries = AllByRecursion (AllByRecursion IsToken) entries
+
+-- what becomes of entries under an origin
+abbrev pub AreBecome : Labels → List Entry → ℕ → List (List Token) → List Outcome → Type 0
+AreBecome cased before line entries outcomes = EachBecomes (BecomesUnder cased) before line entries outcomes
 
 module _ (cased origin : Labels) where
   -- ---- one entry, and others after it
@@ -38,15 +46,9 @@ module _ (cased origin : Labels) where
   first_to before after line tokens new Old New placed reads go (joined.states_none nothing rest) = file.states_none (reads.nothing.1 nothing) (go placed rest)
   first_to before after line tokens new Old New placed reads go (joined.states_one p others states place are rest) = file.states_one p others ((reads.record_is p.rr).1 states) place are (go others rest)
 
-  abbrev AreBecome : List Entry → ℕ → List (List Token) → List Outcome → Type 0
-  AreBecome before line entries outcomes = EachBecomes (BecomesUnder cased) before line entries outcomes
-
-  abbrev AreAllTokens : List (List Token) → Type 0
-  AreAllTokens entries = AllByRecursion (AllByRecursion IsToken) entries
-
   -- ---- entry after entry
 
-  each_from : (before after : List Entry) (line : ℕ) (entries : List (List Token)) (outcomes : List Outcome) (placed : List Placed) → LeaveAlike origin before after → AreAllTokens entries → AreBecome before line entries outcomes → EntriesState origin after (numbered line (news outcomes)) placed → EachWithWords cased origin before line entries placed
+  each_from : (before after : List Entry) (line : ℕ) (entries : List (List Token)) (outcomes : List Outcome) (placed : List Placed) → LeaveAlike origin before after → AreAllTokens entries → AreBecome cased before line entries outcomes → EntriesState origin after (numbered line (news outcomes)) placed → EachWithWords cased origin before line entries placed
   each_from before after line [] [] placed same each becomes states = states
   each_from before after line [] (o ∷ outcomes) placed same each becomes states = absurd becomes
   each_from before after line (entry ∷ entries) [] placed same each becomes states = absurd becomes
@@ -56,7 +58,7 @@ module _ (cased origin : Labels) where
       first_from before after line entry o.written (EachWithWords cased origin (entry_of line entry ∷ before) (line + feeds entry) entries) (EntriesState origin (entry_of line o.written ∷ after) (numbered (line + feeds o.written) (news outcomes))) placed reads
       (λ others rest. each_from (entry_of line entry ∷ before) (entry_of line o.written ∷ after) (line + feeds entry) entries outcomes others reads.leaves each.1 becomes.1 (subst (λ n. EntriesState origin (entry_of line o.written ∷ after) (numbered (line + n) (news outcomes)) others) (sym lines) rest)) states
 
-  each_to : (before after : List Entry) (line : ℕ) (entries : List (List Token)) (outcomes : List Outcome) (placed : List Placed) → LeaveAlike origin before after → AreAllTokens entries → AreBecome before line entries outcomes → EachWithWords cased origin before line entries placed → EntriesState origin after (numbered line (news outcomes)) placed
+  each_to : (before after : List Entry) (line : ℕ) (entries : List (List Token)) (outcomes : List Outcome) (placed : List Placed) → LeaveAlike origin before after → AreAllTokens entries → AreBecome cased before line entries outcomes → EachWithWords cased origin before line entries placed → EntriesState origin after (numbered line (news outcomes)) placed
   each_to before after line [] [] placed same each becomes states = states
   each_to before after line [] (o ∷ outcomes) placed same each becomes states = absurd becomes
   each_to before after line (entry ∷ entries) [] placed same each becomes states = absurd becomes
@@ -81,7 +83,7 @@ module _ (cased origin : Labels) where
   one_untold before after line tokens o Others placed (refused it fail e) states = absurd (not_refused before after line tokens it Others placed fail (subst (λ (x : Outcome). StatesFirst origin after (entry_of line x.written) Others placed) e states))
   one_untold before after line tokens o Others placed (kept no_say no_fail e) states = ap (λ (x : Outcome). x.told) e
 
-  each_untold : (before after : List Entry) (line : ℕ) (entries : List (List Token)) (outcomes : List Outcome) (placed : List Placed) → AreAllTokens entries → AreBecome before line entries outcomes → EntriesState origin after (numbered line (news outcomes)) placed → told_of outcomes ≡ []
+  each_untold : (before after : List Entry) (line : ℕ) (entries : List (List Token)) (outcomes : List Outcome) (placed : List Placed) → AreAllTokens entries → AreBecome cased before line entries outcomes → EntriesState origin after (numbered line (news outcomes)) placed → told_of outcomes ≡ []
   each_untold before after line [] [] placed each becomes states = refl
   each_untold before after line [] (o ∷ outcomes) placed each becomes states = absurd becomes
   each_untold before after line (entry ∷ entries) [] placed each becomes states = absurd becomes
@@ -94,7 +96,7 @@ module _ (cased origin : Labels) where
 
   -- ---- the whole text
 
-  module _ (octets new : List ℕ) (told : List Refused) (tokens : List Token) (outcomes : List Outcome) (cut : Cuts octets tokens) (each : AreBecome [] 1 (and_last (cut_from zero tokens).ended (cut_from zero tokens).open_tokens) outcomes) (new_is : new ≡ written_of outcomes) where
+  module _ (octets new : List ℕ) (told : List Refused) (tokens : List Token) (outcomes : List Outcome) (cut : Cuts octets tokens) (each : AreBecome cased [] 1 (and_last (cut_from zero tokens).ended (cut_from zero tokens).open_tokens) outcomes) (new_is : new ≡ written_of outcomes) where
     abbrev found : IsCutWhole tokens outcomes new
     found = cut_whole_text cased octets new tokens outcomes cut each new_is
 

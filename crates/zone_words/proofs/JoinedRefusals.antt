@@ -1,20 +1,17 @@
 -- A reading of what is written for a file ends where an entry is refused, or before.
-use Rattle.zone_words.proofs.Common.{AllByRecursion, BecomesUnder, Cut, EachBecomes, Entry, IsRefused, IsRewriting, IsToken, Labels, List, Outcome, Refused, Some, Token, TouchingItem, [], and_last, anew, ap, arith, count_by, cut_from, cut_not_broken, entry_of, kept, no_data, numbered, on_more_lines, one_break, one_cut, refl, refused, subst, sym, text, told_of, too_many, written_text, touching_items, true, zero, ℕ, ◌++◌, ◌+◌, ◌==◌, ◌∙◌, ◌∷◌, ◌≡◌, None}
+use Rattle.zone_words.proofs.Common.{BecomesUnder, Cut, Entry, IsRefused, IsRewriting, Labels, List, Outcome, Refused, Some, Token, TouchingItem, [], and_last, anew, ap, arith, cut_from, cut_not_broken, entry_of, kept, no_data, numbered, on_more_lines, one_break, one_cut, refl, refused, subst, sym, told_of, too_many, written_text, touching_items, true, zero, ℕ, ◌++◌, ◌+◌, ◌∙◌, ◌∷◌, ◌≡◌, None}
 use Rattle.std.specs.Prelude.{◌≤◌}
 use Rattle.zone_rdata.specs.declared.record.Placed.{Placed}
 use Rattle.zone_rdata.specs.declared.fault.Place.TheVariants.{Line}
 use Rattle.zone_text.specs.Entries.{entries_of, open_line}
 use Rattle.zone_text.specs.FileReads as file
 use Rattle.zone_text.specs.FileReads.{Ending, FileReads, ReadEach, ReadsFirst}
-use Rattle.zone_words.proofs.JoinedFiles.{one_untold, rest_states}
+use Rattle.zone_words.proofs.JoinedFiles.{AreAllTokens, AreBecome, feeds, one_untold, rest_states}
 use Rattle.zone_words.proofs.KeptEntries.{becomes_keeps}
 use Rattle.zone_words.proofs.RewrittenAgain.{each_and_last, each_tokens}
 use Rattle.zone_words.proofs.RewrittenCut.{cut_broken_text, cut_whole_text, news}
 use Rattle.zone_words.specs.Rewriting as rewriting
 use Rattle.zone_words.specs.WithWords.{EndsBy}
-
-abbrev feeds : List Token → ℕ
-feeds tokens = count_by (λ c. c == 10) (text tokens)
 
 -- what is told of an entry has its line
 fails_line : (origin : Labels) (before : List Entry) (entry : Entry) (word : List ℕ) (d : List TouchingItem) (it : Refused) → IsRefused origin before entry word d it → it.line ≡ entry.line
@@ -23,12 +20,6 @@ fails_line origin before entry word d it (on_more_lines further above is words f
 fails_line origin before entry word d it (no_data further above field fault is words few line fails) = refl
 
 module _ (cased origin : Labels) where
-  abbrev AreBecome : List Entry → ℕ → List (List Token) → List Outcome → Type 0
-  AreBecome before line entries outcomes = EachBecomes (BecomesUnder cased) before line entries outcomes
-
-  abbrev AreAllTokens : List (List Token) → Type 0
-  AreAllTokens entries = AllByRecursion (AllByRecursion IsToken) entries
-
   -- what is told first is told of a line that isn't before the first entry
   passed_line : (line more : ℕ) (o : Outcome) (outcomes : List Outcome) (it : Refused) (others : List Refused) → o.told ≡ [] → told_of (o ∷ outcomes) ≡ it ∷ others → (told_of outcomes ≡ it ∷ others → line + more ≤ it.line) → line ≤ it.line
   passed_line line more o outcomes it others none told next =
@@ -44,7 +35,7 @@ module _ (cased origin : Labels) where
       let lines : it.line ≡ line = ap (λ (x : Refused). x.line) (sym same) ∙ own in
       omega arith
 
-  told_line : (before : List Entry) (line : ℕ) (entries : List (List Token)) (outcomes : List Outcome) (it : Refused) (others : List Refused) → AreBecome before line entries outcomes → told_of outcomes ≡ it ∷ others → line ≤ it.line
+  told_line : (before : List Entry) (line : ℕ) (entries : List (List Token)) (outcomes : List Outcome) (it : Refused) (others : List Refused) → AreBecome cased before line entries outcomes → told_of outcomes ≡ it ∷ others → line ≤ it.line
   told_line before line [] [] it others becomes told = absurd cc
   told_line before line [] (o ∷ outcomes) it others becomes told = absurd becomes
   told_line before line (entry ∷ entries) [] it others becomes told = absurd becomes
@@ -52,7 +43,7 @@ module _ (cased origin : Labels) where
       told_here before line entry o outcomes it others told
       (λ later. told_line (entry_of line entry ∷ before) (line + feeds entry) entries outcomes it others becomes.1 later) becomes.0
 
-  each_ends : (last : Ending) (before after : List Entry) (line : ℕ) (entries : List (List Token)) (outcomes : List Outcome) (placed : List Placed) (ending : Ending) (it : Refused) (others : List Refused) → AreAllTokens entries → AreBecome before line entries outcomes → told_of outcomes ≡ it ∷ others → ReadEach origin last after (numbered line (news outcomes)) placed ending → EndsBy it.line ending
+  each_ends : (last : Ending) (before after : List Entry) (line : ℕ) (entries : List (List Token)) (outcomes : List Outcome) (placed : List Placed) (ending : Ending) (it : Refused) (others : List Refused) → AreAllTokens entries → AreBecome cased before line entries outcomes → told_of outcomes ≡ it ∷ others → ReadEach origin last after (numbered line (news outcomes)) placed ending → EndsBy it.line ending
   each_ends last before after line [] [] placed ending it others each becomes told reading = absurd cc
   each_ends last before after line [] (o ∷ outcomes) placed ending it others each becomes told reading = absurd becomes
   each_ends last before after line (entry ∷ entries) [] placed ending it others each becomes told reading = absurd becomes
