@@ -15,6 +15,14 @@ mod KeptEntries
 pub mod RewrittenCut
 mod SameStatements
 pub mod RewrittenAgain
+mod JoinedKinds
+mod JoinedRefused
+mod JoinedReading
+mod JoinedEntries
+mod JoinedFiles
+mod JoinedStopped
+mod JoinedFaults
+mod JoinedRefusals
 mod Base32Digits
 mod Base64Texts
 mod HexDigits

@@ -124,11 +124,11 @@ module _ (origin : Labels) where
 
   -- ---- the whole text
 
-  each_tokens : (ended : List (List Token)) → AllByRecursion IsWholeEntry ended → AllByRecursion (AllByRecursion IsToken) ended
+  pub each_tokens : (ended : List (List Token)) → AllByRecursion IsWholeEntry ended → AllByRecursion (AllByRecursion IsToken) ended
   each_tokens [] each = tt
   each_tokens (entry ∷ ended) each = (each.0.cut.each, each_tokens ended each.1)
 
-  each_and_last : (ended : List (List Token)) (open_tokens : List Token) → AllByRecursion (AllByRecursion IsToken) ended → AllByRecursion IsToken open_tokens → AllByRecursion (AllByRecursion IsToken) (and_last ended open_tokens)
+  pub each_and_last : (ended : List (List Token)) (open_tokens : List Token) → AllByRecursion (AllByRecursion IsToken) ended → AllByRecursion IsToken open_tokens → AllByRecursion (AllByRecursion IsToken) (and_last ended open_tokens)
   each_and_last ended [] each last = each
   each_and_last [] (p ∷ open_tokens) each last = (last, tt)
   each_and_last (entry ∷ ended) (p ∷ open_tokens) each last = (each.0, each_and_last ended (p ∷ open_tokens) each.1 last)

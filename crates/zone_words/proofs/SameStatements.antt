@@ -14,14 +14,14 @@ use Rattle.zone_words.specs.Written.{in_octets}
 
 -- ---- the parts of a record, with other items from the type on
 
-abbrev parts_of : List Word → List RawItem → Parts
+abbrev pub parts_of : List Word → List RawItem → Parts
 parts_of words rest = record { words = words; rest = rest }
 
 -- an item before no word
-abbrev IsNoWord : RawItem → Type 0
+abbrev pub IsNoWord : RawItem → Type 0
 IsNoWord item = (words : List Word) → word_after words item ≡ None
 
-too_short : (words : List Word) (a : RawItem) (x : List RawItem) → (parts_after words x).rest ≡ a ∷ x → ⊥
+pub too_short : (words : List Word) (a : RawItem) (x : List RawItem) → (parts_after words x).rest ≡ a ∷ x → ⊥
 too_short words a x e =
     let b = parts_behind words x in
     let l : length x ≡ length b.0 + length (parts_after words x).rest = ap length b.1 ∙ length-append b.0 (parts_after words x).rest in
@@ -56,7 +56,7 @@ module _ (a b : RawItem) (x y : List RawItem) (none : IsNoWord b) where
   owned_parts [] parts e rest = absurd (let same : parts_after [] x ≡ parts = cc e in too_short [] a x (ap (λ (p : Parts). p.rest) same ∙ rest))
   owned_parts (f ∷ front) parts e rest = some_parts front parts e rest
 
-  abbrev by_octet : Bool → Bool → RawItem → List RawItem → Statement
+  abbrev pub by_octet : Bool → Bool → RawItem → List RawItem → Statement
   by_octet dollar is item items = if dollar then directive item items else if is then unowned (item ∷ items) else owned item items
 
   octet_alone : (dollar is : Bool) (parts : Parts) → parts_in (by_octet dollar is a x) ≡ Some parts → parts.rest ≡ a ∷ x → parts_in (by_octet dollar is b y) ≡ Some (parts_of parts.words (b ∷ y))
@@ -82,7 +82,7 @@ never_owner false false a x parts unblank e rest = let same : parts_after [] x �
 
 -- ---- the first octet
 
-first_same : (p : Token) (a b : List ℕ) → IsToken p → slice_get (token_text p ++ a) 0 ≡ slice_get (token_text p ++ b) 0
+pub first_same : (p : Token) (a b : List ℕ) → IsToken p → slice_get (token_text p ++ a) 0 ≡ slice_get (token_text p ++ b) 0
 first_same (bare []) a b is = absurd (omega (arith, is.0))
 first_same (bare (plain c ∷ units)) a b is = refl
 first_same (bare (escaped c ∷ units)) a b is = refl
@@ -107,12 +107,12 @@ bare_begins (spelling.decimal c d e ∷ units) more is = record { octet = 92; is
 
 -- ---- the items that are written
 
-abbrev number_in : Anew → ℕ
+abbrev pub number_in : Anew → ℕ
 number_in (renamed number) = number
 number_in (in_octets number octets) = number
 
 -- the tokens after the type's
-abbrev behind : Anew → List Token → List Token
+abbrev pub behind : Anew → List Token → List Token
 behind (renamed number) back = back
 behind (in_octets number []) back = blank 32 ∷ bare (escaped 35 ∷ []) ∷ blank 32 ∷ bare (map plain (decimal 0)) ∷ filter stays back
 behind (in_octets number (c ∷ octets)) back =
@@ -123,13 +123,13 @@ written_behind (renamed number) back = refl
 written_behind (in_octets number []) back = refl
 written_behind (in_octets number (c ∷ octets)) back = refl
 
-abbrev type_text : ℕ → List ℕ
+abbrev pub type_text : ℕ → List ℕ
 type_text number = written_text (map plain (codes "TYPE" ++ decimal number))
 
-abbrev type_item : Anew → RawItem
+abbrev pub type_item : Anew → RawItem
 type_item it = raw.bare (type_text (number_in it))
 
-abbrev items_after : Anew → List Token → List RawItem
+abbrev pub items_after : Anew → List Token → List RawItem
 items_after it back = flat_map item_of (behind it back)
 
 no_mnemonic : (number n : ℕ) (word : List ℕ) → word ≡ type_text number → IsMnemonic further_names word n → ⊥
@@ -151,22 +151,22 @@ alike_by form other parts parts' e e' same = (
 )
 
 module _ (line : ℕ) (back : List Token) (word : List Written) (it : Anew) where
-  abbrev WordStands : List Token → Parts → Type 0
+  abbrev pub WordStands : List Token → Parts → Type 0
   WordStands front parts = (parts_in (statement_of (entry_of line (front ++ bare word ∷ back))) ≡ Some parts) × (parts.rest ≡ raw.bare (written_text word) ∷ flat_map item_of back)
 
-  abbrev TypeStands : List Token → Parts → Type 0
+  abbrev pub TypeStands : List Token → Parts → Type 0
   TypeStands front parts = parts_in (statement_of (entry_of line (front ++ written it back))) ≡ Some (parts_of parts.words (type_item it ∷ items_after it back))
 
-  abbrev word_item : RawItem
+  abbrev pub word_item : RawItem
   word_item = raw.bare (written_text word)
 
-  old_items : (front : List Token) → flat_map item_of (front ++ bare word ∷ back) ≡ flat_map item_of front ++ word_item ∷ flat_map item_of back
+  pub old_items : (front : List Token) → flat_map item_of (front ++ bare word ∷ back) ≡ flat_map item_of front ++ word_item ∷ flat_map item_of back
   old_items front = flat_map-append item_of front (bare word ∷ back)
 
-  new_items : (front : List Token) → flat_map item_of front ++ type_item it ∷ items_after it back ≡ flat_map item_of (front ++ written it back)
+  pub new_items : (front : List Token) → flat_map item_of front ++ type_item it ∷ items_after it back ≡ flat_map item_of (front ++ written it back)
   new_items front = ap (λ t. flat_map item_of front ++ t) (sym (ap (flat_map item_of) (written_behind it back))) ∙ sym (flat_map-append item_of front (written it back))
 
-  none_before : (parts : Parts) → IsToken (bare word) → WordStands [] parts → ⊥
+  pub none_before : (parts : Parts) → IsToken (bare word) → WordStands [] parts → ⊥
   none_before parts is stands =
       let begins = bare_begins word (text back) is in
       never_owner (begins.octet == 36) (is_blank begins.octet) word_item (flat_map item_of back) parts begins.not
@@ -181,7 +181,7 @@ module _ (line : ℕ) (back : List Token) (word : List Written) (it : Anew) wher
       subst (λ o. parts_in (statement_by o (flat_map item_of (p ∷ front ++ written it back))) ≡ Some (parts_of parts.words (type_item it ∷ items_after it back))) same
       (subst (λ i. parts_in (statement_by old i) ≡ Some (parts_of parts.words (type_item it ∷ items_after it back))) (new_items (p ∷ front)) now)
 
-  type_stands : (front : List Token) (parts : Parts) → AllByRecursion IsToken (front ++ bare word ∷ back) → WordStands front parts → TypeStands front parts
+  pub type_stands : (front : List Token) (parts : Parts) → AllByRecursion IsToken (front ++ bare word ∷ back) → WordStands front parts → TypeStands front parts
   type_stands [] parts each stands = absurd (none_before parts each.0 stands)
   type_stands (p ∷ front) parts each stands = some_before p front parts each.0 stands
 
@@ -226,7 +226,7 @@ anew_generic origin before entry word back it (in_words further above octets is 
 -- ---- the entry of tokens
 
 module _ (origin : Labels) (before after : List Entry) (line : ℕ) where
-  says_stated : (entry : Entry) (word : List ℕ) (back : List Token) (it : Anew) → SaysAnew origin before entry word (touching_items true back) it → (parts : Parts) × (parts_in (statement_of entry) ≡ Some parts) × (parts.rest ≡ raw.bare word ∷ flat_map item_of back)
+  pub says_stated : (entry : Entry) (word : List ℕ) (back : List Token) (it : Anew) → SaysAnew origin before entry word (touching_items true back) it → (parts : Parts) × (parts_in (statement_of entry) ≡ Some parts) × (parts.rest ≡ raw.bare word ∷ flat_map item_of back)
   says_stated entry word back it says =
       let u = says_under origin before entry word (touching_items true back) it says in
       (u.is.stated.parts, u.is.stated.split, u.is.stated.from_type ∙ ap (λ t. raw.bare word ∷ t) (items_behind true back))

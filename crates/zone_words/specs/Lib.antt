@@ -23,3 +23,4 @@ pub mod CutAlike
 pub mod FaultText
 pub mod Unescaped
 pub mod WordsLine
+pub mod WithWords

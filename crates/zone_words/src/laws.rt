@@ -7,6 +7,7 @@ ghost use Rattle.zone_words.specs.NoFurther.{HasNoFurtherWord};
 ghost use Rattle.zone_words.specs.Rewriting.{Refused};
 
 pub mod data;
+pub mod joined;
 pub mod printed;
 pub mod words;
 
