@@ -12,7 +12,7 @@ use Rattle.zone_words.specs.Rewriting.{EachBecomes, Outcome, broken, told_of, wh
 use Rattle.words_print.specs.Shown.{StatesItsClass}
 
 -- what becomes of one record that states its class
-record LineBecomes (tokens : List Token) (new : List ℕ) : Type 0 where
+pub record LineBecomes (tokens : List Token) (new : List ℕ) : Type 0 where
   pub outcome : Outcome
   pub is : BecomesUnder [] [] 1 tokens outcome
   pub none : outcome.told ≡ []
@@ -28,7 +28,7 @@ of_outcomes tokens new (o ∷ []) each new_is told_is = record {
 }
 of_outcomes tokens new (o ∷ p ∷ outcomes) each new_is told_is = absurd each.1
 
-line_becomes : (octets new : List ℕ) (s : StatesItsClass octets) → IsRewriting [] octets new [] → LineBecomes s.tokens new
+pub line_becomes : (octets new : List ℕ) (s : StatesItsClass octets) → IsRewriting [] octets new [] → LineBecomes s.tokens new
 line_becomes octets new s (whole tokens outcomes cuts each new_is told_is) =
     let same : tokens ≡ s.tokens = one_cut octets tokens s.tokens cuts s.one.cut in
     let all : and_last (cut_from zero tokens).ended (cut_from zero tokens).open_tokens ≡ s.tokens ∷ [] =

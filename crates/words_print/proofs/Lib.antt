@@ -5,5 +5,10 @@ mod Canonical
 mod FirstLine
 mod Classed
 mod Read
-mod ShownLines
+mod Told
+mod Cuts
+mod DataEnds
+mod Heads
+mod Fitting
+mod CanonicalLines
 mod Origins

@@ -5,7 +5,7 @@ use Rattle.zone_print.specs.Laws.{EndsWithItsFeed, HasNoFeed}
 use Rattle.zone_words.specs.Data.{joined}
 use Rattle.zone_words.specs.Entry.{IsRewriting}
 use Rattle.words_print.proofs.Joined.{EachRewritten, joined_rewriting}
-use Rattle.words_print.specs.Shown.{AreShown, EachIsShown, IsRecordLine, IsShownLine, IsShownText, StatesItsClass, after_others, ended, in_words, stays, unended}
+use Rattle.words_print.specs.Shown.{AreShown, EachIsShown, IsRecordInWords, IsRecordLine, IsShownLine, IsShownText, StatesItsClass, ended, gets_words, no_data, no_words, of_another, too_many_items, unended}
 
 -- octets up to their first line feed, and what follows it
 record SameCut (f g a b : List ℕ) : Type 0 where
@@ -47,10 +47,17 @@ one_cut_of_lines (l ∷ a) (m ∷ b) last p q none same =
 
 -- ---- lines of records
 
+line_stays : (line shown : List ℕ) → IsRecordLine line → shown ≡ line → StatesItsClass shown × IsRewriting [] shown line []
+line_stays line shown is same = (subst StatesItsClass (sym same) is.states, subst (λ t. IsRewriting [] t line []) (sym same) is.own)
+
 line_rewritten : (line shown : List ℕ) → IsRecordLine line → IsShownLine line shown → StatesItsClass shown × IsRewriting [] shown line []
-line_rewritten line shown is (stays same) = (subst StatesItsClass (sym same) is.states, subst (λ t. IsRewriting [] t line []) (sym same) is.own)
-line_rewritten line shown is (in_words names record_is) = (record_is.states, record_is.under_root)
-line_rewritten line shown is (after_others ahead old new end none parted others ends names record_is) = absurd (none is.states)
+line_rewritten line shown is (gets_words front further octets end items d printed fits same) =
+    let record_is : IsRecordInWords line shown = subst (IsRecordInWords line) (sym same) (fits is.states) in
+    (record_is.states, record_is.under_root)
+line_rewritten line shown is (no_data none same) = line_stays line shown is same
+line_rewritten line shown is (no_words front further octets end d none same) = line_stays line shown is same
+line_rewritten line shown is (of_another front further octets end items d printed states other same) = line_stays line shown is same
+line_rewritten line shown is (too_many_items many same) = line_stays line shown is same
 
 each_rewritten : (lines shown : List (List ℕ)) → AllByRecursion IsRecordLine lines → EachIsShown lines shown → EachRewritten shown lines
 each_rewritten [] [] are each = tt

@@ -1,5 +1,5 @@
 -- The text `x.` spells a name that isn't the root.
-use Rattle.std.proofs.Common.{◌≡◌, ◌≢◌, ◌∙◌, ℕ, List, [], ◌∷◌, arith, refl, sym}
+use Rattle.std.proofs.Common.{[], ◌∷◌, arith, refl}
 use Rattle.std.specs.Prelude.{None}
 use Rattle.zone_name.specs.Spelling.{SpellsCased, absolute, plain}
 
@@ -8,6 +8,3 @@ x_spelled = record {
   written = absolute ((plain 120 ∷ []) ∷ []) (record { some = omega arith; each = (record { some = omega arith; each = ((refl, omega arith), tt) }, tt) }) refl refl;
   name = record { each = (record { some = omega arith; short = omega arith; each = (omega arith, tt) }, tt); short = omega arith };
 }
-
-pub one_label : (label : List ℕ) (labels : List (List ℕ)) → labels ≡ label ∷ [] → labels ≢ []
-one_label label labels is = λ none. (let bad : [] ≡ label ∷ [] = sym none ∙ is in cc bad)

@@ -26,14 +26,16 @@ pub record StatesItsClass (octets : List ℕ) : Type 0 where
   pub one : IsOneEntry octets tokens
   pub class : IsSome (class_word (statement_of (entry_of 1 tokens)))
 
+-- an origin that isn't the root: `x.`
+abbrev pub another_origin : Labels
+another_origin = (120 ∷ []) ∷ []
+
 -- A record that states its class, in words: its rewriting is the record that was there, under the
 -- root and under another origin too, so that no name in it is relative.
 pub record IsRecordInWords (old new : List ℕ) : Type 0 where
   pub states : StatesItsClass new
   pub under_root : IsRewriting [] new old []
-  pub origin : Labels
-  pub not_root : origin ≢ []
-  pub under_origin : IsRewriting origin new old []
+  pub under_another : IsRewriting another_origin new old []
 
 -- the line feed that ends a line, or nothing, as at the end of a text
 abbrev pub IsLineEnd : List ℕ → Type 0

@@ -1,6 +1,7 @@
 //! Whether octets are one record that states its class (RFC 1035 5.1).
 ghost use Rattle.std.specs.Prelude.{◌≡◌, Ok, is_some, length, map};
-ghost use Rattle.words_print.specs.Shown.{StatesItsClass};
+ghost use Rattle.words_print.specs.Machine.Found.{StatesInFew};
+ghost use Rattle.words_print.specs.Shown.{HasTooManyItems, StatesItsClass};
 ghost use Rattle.words_print.specs.declared.class_stated.ClassStated.TheVariants as answers;
 ghost use Rattle.zone_rdata.specs.Item.{raw};
 ghost use Rattle.zone_text.specs.FirstEntry.{IsFirstEntry};
@@ -18,7 +19,7 @@ pub(crate) enum ClassStated {
     Yes,
     /// They aren't.
     No,
-    /// It isn't told: they have more than one entry, or very many items.
+    /// It isn't told: they are one entry of very many items.
     Untold,
 }
 
@@ -56,14 +57,18 @@ pub(crate) fn class_stated<'t>(
     octets: &'t [u8],
     items: &mut Vec<Item<'t>>,
 ) -> Result<ClassStated, AllocError>
-    ensures yes { result ≡ Ok answers.Yes → StatesItsClass octets.now }
+    ensures yes { result ≡ Ok answers.Yes → StatesInFew octets.now }
     ensures no { result ≡ Ok answers.No → StatesItsClass octets.now → ⊥ }
+    ensures untold { result ≡ Ok answers.Untold → HasTooManyItems octets.now }
     ensures whole { result ≡ Ok answers.Yes
         → IsFirstEntry octets.now (length octets.now) (map raw items.new.items) }
 {
     match first_entry(octets, items)? {
         FirstEntry::Whole(len) => {
-            if len != octets.len() || items.len() >= MOST_ITEMS {
+            if len != octets.len() {
+                return Ok(ClassStated::No);
+            }
+            if items.len() >= MOST_ITEMS {
                 return Ok(ClassStated::Untold);
             }
             if has_class(statement_of(octets, items)) {

@@ -1,5 +1,5 @@
-//! Hexadecimal digits (RFC 4648 8), read 32 at a time. What their octets are shown as is read again
-//! before it is shown, so nothing is said of them here.
+//! Hexadecimal digits (RFC 4648 8), read 32 at a time. Their octets are written again in digits and
+//! compared before anything is shown for them, so nothing is said of them here.
 ghost use Rattle.std.specs.Prelude.{◌≤◌, length};
 
 use std::alloc::AllocError;

@@ -1,13 +1,22 @@
 //! Laws over the definitions alone.
 ghost use Rattle.std.specs.List.{AllByRecursion};
-ghost use Rattle.std.specs.Prelude.{List, ℕ, []};
-ghost use Rattle.words_print.specs.Shown.{IsRecordLine, IsShownText};
+ghost use Rattle.std.specs.Prelude.{◌≡◌, List, ℕ, [], Some, true};
+ghost use Rattle.words_print.specs.Shown.{IsRecordLine, IsShownLine, IsShownText};
+ghost use Rattle.zone_name.specs.Common.{AreOctets};
 ghost use Rattle.zone_print.specs.Canonical.{lines};
 ghost use Rattle.zone_rdata.specs.Record.{IsRecord, Record};
+ghost use Rattle.zone_rdata.specs.Table.{in_class};
 ghost use Rattle.zone_words.specs.Data.{joined};
+ghost use Rattle.zone_words.specs.DataItem.{TouchingItem};
 ghost use Rattle.zone_words.specs.Entry.{IsRewriting};
+ghost use Rattle.zone_words.specs.PrintedData.{HasNoWords, PrintsData};
+ghost use Rattle.zone_words.specs.Table.{FurtherType, further_type};
+ghost use Rattle.zone_words.specs.WordsLine.{IsHead, generic_line, words_line};
 
 use zone_print::laws::each_line_is_one_entry;
+use zone_words::laws::words::{
+    a_generic_line_is_one_entry, a_line_in_words_is_rewritten, the_words_of_data,
+};
 
 /// What is shown for a text of one record a line, each with its class and without words of further
 /// types, is rewritten under the root as that text.
@@ -22,4 +31,19 @@ pub fn a_canonical_text_comes_back()
         → IsShownText (lines records) shown → IsRewriting [] shown (lines records) [] }
 {
     each_line_is_one_entry();
+}
+
+/// A line of an owner, a TTL, a class and octets that items state as the data of a type is shown
+/// with the words that are printed for the octets.
+pub fn a_canonical_line_is_shown_in_words()
+    ensures { (head : List ℕ) (class : ℕ) (further : FurtherType) (octets shown : List ℕ)
+        → IsHead head class → further_type further.number ≡ Some further
+        → (further.in_internet_alone ≡ true → class ≡ in_class) → AreOctets octets
+        → (HasNoWords further.fields octets → ⊥)
+        → IsShownLine (generic_line head further octets) shown → (items : List TouchingItem)
+        × PrintsData further.fields items octets × (shown ≡ words_line head further items) }
+{
+    a_line_in_words_is_rewritten();
+    the_words_of_data();
+    a_generic_line_is_one_entry();
 }

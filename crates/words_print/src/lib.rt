@@ -1,7 +1,8 @@
-//! Canonical texts and differences of them for people: the records of further types in words in
-//! place of the generic form (RFC 3597 5), where these words, read again, are that form.
+//! Canonical texts and differences of them for people: the records of further types with the words
+//! that are printed for their data in place of the generic form (RFC 3597 5).
 #![tactic(auto)]
 
+mod canonical_head;
 mod class_stated;
 mod digits;
 mod generic_line;

@@ -1,42 +1,52 @@
 //! Lines in words.
-ghost use Rattle.std.specs.Prelude.{◌≡◌, ◌≢◌, ◌++◌, ◌∷◌, [], IfOk, Ok, OnErr, OnOk, length, map, true};
-ghost use Rattle.words_print.specs.Machine.Found.{FoundIn, HoldsNothing};
-ghost use Rattle.words_print.specs.Shown.{IsRecordInWords, IsShownLine};
+ghost use Rattle.hex.specs.Hex.{decode_of};
+ghost use Rattle.std.specs.Prelude.{◌≡◌, ◌++◌, ◌∷◌, ℕ, List, [], IfOk, Ok, OnErr, OnOk, false, length, map, true};
+ghost use Rattle.words_print.specs.Machine.Found.{DoesNotFit, FoundIn, HasData, HasNoData, HoldsNothing, IsCanonicalLine, StatesInFew, with_octets};
+ghost use Rattle.words_print.specs.Shown.{Fits, IsRecordInWords, IsShownLine, another_origin};
+ghost use Rattle.zone_name.specs.Common.{AreOctets};
 ghost use Rattle.zone_rdata.specs.Item.{raw};
 ghost use Rattle.zone_text.specs.FirstEntry.{IsFirstEntry};
 ghost use Rattle.zone_words.specs.Entry.{IsRewriting};
 ghost use Rattle.zone_words.specs.Fault.{AppendsStated};
-ghost use Rattle.zone_words.specs.Printed.{ArePrinted};
+ghost use Rattle.zone_words.specs.PrintedData.{AreItsWords, AreOfAType, HasNoWords};
+ghost use Rattle.zone_words.specs.Table.{of_code};
 
+use crate::canonical_head::{are_owner_and_ttl, is_plain_word};
 use crate::class_stated::{ClassStated, class_stated, room_for_items};
 use crate::digits::read_digits;
 use crate::generic_line::{GenericLine, generic_line};
+use hex::{FromHexError, decode};
 use std::alloc::{AllocError, Global};
 use zone_name::CasedName;
+use zone_name::laws::are_octets;
 use zone_rdata::Item;
-use zone_words::{Rewriter, Unprinted, print_data};
+use zone_words::laws::rewriting_is_unique;
+use zone_words::laws::words::{a_line_in_words_is_rewritten, the_words_of_data};
+use zone_words::{Rewriter, Unprinted, print_data, push_generic};
 
 /// A printer of lines in words. It keeps the room that it needs from line to line, and nothing in
 /// it.
 #[derive(Drop)]
 pub(crate) struct LinePrinter {
     alloc: Global,
-    /// Reads what is printed.
+    /// Reads what is printed, where the line isn't one of a canonical text.
     reader: Rewriter,
     /// The octets of a record's data.
     octets: Vec<u8>,
     /// Their words.
     words: Vec<u8>,
-    /// What is shown.
+    /// The line in words.
     shown: Vec<u8>,
-    /// What it has to be rewritten as.
+    /// The line as it has to be if it ends with these octets.
     wanted: Vec<u8>,
 }
 
 /// Whether what was read is rewritten as this, and nothing is told of it.
 fn has_read(reader: &Rewriter, wanted: &[u8]) -> bool
-    ensures { result ≡ true → (reader.now.held.told.count ≡ 0)
+    ensures yes { result ≡ true → (reader.now.held.told.count ≡ 0)
         × (reader.now.held.written ≡ wanted.now) }
+    ensures no { result ≡ false → reader.now.held.told.count ≡ 0
+        → reader.now.held.written ≡ wanted.now → ⊥ }
 {
     reader.refusals().count == 0 && reader.written() == wanted
 }
@@ -51,15 +61,16 @@ fn is_rewritten(
     wanted: &[u8],
 ) -> Result<bool, AllocError>
     requires { IsFirstEntry text.now (length text.now) (map raw items.now) }
-    ensures { result ≡ Ok true → IsRewriting origin.now text.now wanted.now [] }
+    ensures yes { result ≡ Ok true → IsRewriting origin.now text.now wanted.now [] }
+    ensures no { result ≡ Ok false → IsRewriting origin.now text.now wanted.now [] → ⊥ }
 {
     reader.rewrite_entry(origin, text, items)?;
     Ok(has_read(reader, wanted))
 }
 
-/// An origin that isn't the root: `x.`.
-fn another_origin() -> CasedName
-    ensures { result ≢ [] }
+/// The origin `x.`, which isn't the root.
+fn other_origin() -> CasedName
+    ensures { result ≡ another_origin }
 {
     let mut origin = CasedName::root();
     let _ = origin.set_from_text(b"x.", None);
@@ -74,7 +85,9 @@ fn is_in_words(
     text: &[u8],
     wanted: &[u8],
 ) -> Result<bool, AllocError>
-    ensures { result ≡ Ok true → IsRecordInWords wanted.now text.now }
+    requires { StatesInFew wanted.now }
+    ensures yes { result ≡ Ok true → IsRecordInWords wanted.now text.now }
+    ensures no { result ≡ Ok false → IsRecordInWords wanted.now text.now → ⊥ }
 {
     let mut items = room_for_items(alloc)?;
     let ClassStated::Yes = class_stated(text, &mut items)? else {
@@ -83,41 +96,15 @@ fn is_in_words(
     if !is_rewritten(reader, &CasedName::root(), text, &items, wanted)? {
         return Ok(false);
     }
-    is_rewritten(reader, &another_origin(), text, &items, wanted)
+    is_rewritten(reader, &other_origin(), text, &items, wanted)
 }
 
-/// Puts the record of a line in words after octets, and an end after it, in place of what `shown`
-/// held.
-fn put_shown(
-    begin: &[u8],
-    found: &GenericLine,
-    words: &[u8],
-    end: &[u8],
-    shown: &mut Vec<u8>,
-) -> Result<(), AllocError>
-    ensures { OnOk result (shown.new.items ≡ begin.now ++ found.now.class.now
-        ++ found.now.further.now.mnemonic.now ++ words.now ++ end.now) }
+/// Whether a line is one of a canonical text: an owner, a TTL and a class word, and a line feed at
+/// the end.
+fn is_canonical(found: &GenericLine) -> bool
+    ensures { result ≡ true → IsCanonicalLine found.now }
 {
-    shown.clear();
-    shown.extend_from_slice(begin)?;
-    shown.extend_from_slice(found.class)?;
-    shown.extend_from_slice(found.further.mnemonic.as_bytes())?;
-    shown.extend_from_slice(words)?;
-    shown.extend_from_slice(end)
-}
-
-/// Puts the record of a line as it stands there after a blank, and a line feed after it, in place
-/// of what `wanted` held.
-fn put_wanted(found: &GenericLine, wanted: &mut Vec<u8>) -> Result<(), AllocError>
-    ensures { OnOk result (wanted.new.items ≡ 32 ∷ found.now.class.now ++ found.now.word.now
-        ++ found.now.form.now ++ 10 ∷ []) }
-{
-    wanted.clear();
-    wanted.extend_from_slice(b" ")?;
-    wanted.extend_from_slice(found.class)?;
-    wanted.extend_from_slice(found.word)?;
-    wanted.extend_from_slice(found.form)?;
-    wanted.extend_from_slice(b"\n")
+    !found.end.is_empty() && is_plain_word(found.class) && are_owner_and_ttl(found.ahead)
 }
 
 impl LinePrinter {
@@ -145,14 +132,68 @@ impl LinePrinter {
         self.wanted.clear();
     }
 
-    /// Puts the words of a line's data in place of what `words` held. `false`: its octets have no
-    /// words, and `words` may have got some.
-    fn find_words(&mut self, found: &GenericLine) -> Result<bool, AllocError>
-        ensures { result ≡ Ok true → ArePrinted self.new.words.items }
+    /// Whether the line ends with the octets that it has, in the generic form.
+    fn has_octets(&mut self, line: &[u8], found: &GenericLine) -> Result<bool, AllocError>
+        ensures yes { result ≡ Ok true
+            → line.now ≡ with_octets found.now self.new.octets.items }
+        ensures no { result ≡ Ok false
+            → line.now ≡ with_octets found.now self.old.octets.items → ⊥ }
+        ensures octets { self.new.octets.items ≡ self.old.octets.items }
+        ensures each { OnOk result (AreOctets self.new.octets.items) }
     {
-        if !read_digits(found.digits(), &mut self.octets)? {
+        self.wanted.clear();
+        self.wanted.extend_from_slice(found.stem)?;
+        self.wanted.push(b' ')?;
+        push_generic(found.further.number, &self.octets, &mut self.wanted)?;
+        self.wanted.extend_from_slice(found.end)?;
+        are_octets(&self.octets);
+        Ok(self.wanted.as_slice() == line)
+    }
+
+    /// Puts the octets that digits stand for in place of those that it had. `false`: they stand for
+    /// none.
+    fn decode_octets(&mut self, digits: &[u8]) -> Result<bool, AllocError>
+        ensures yes { result ≡ Ok true → decode_of digits.now ≡ Ok self.new.octets.items }
+        ensures no { result ≡ Ok false
+            → (octets : List ℕ) → decode_of digits.now ≡ Ok octets → ⊥ }
+    {
+        match decode(self.alloc, digits) {
+            Ok(octets) => {
+                self.octets = octets;
+                Ok(true)
+            }
+            Err(FromHexError::OutOfMemory) => Err(AllocError),
+            Err(_) => Ok(false),
+        }
+    }
+
+    /// Puts the octets with which the line ends in place of those that it had. `false`: it ends
+    /// with no octets in the generic form.
+    fn find_octets(&mut self, line: &[u8], found: &GenericLine) -> Result<bool, AllocError>
+        requires { FoundIn line.now found.now }
+        ensures yes { result ≡ Ok true → HasData line.now found.now self.new.octets.items }
+        ensures no { result ≡ Ok false → HasNoData line.now }
+    {
+        self.octets.clear();
+        if read_digits(found.digits, &mut self.octets)? && self.has_octets(line, found)? {
+            return Ok(true);
+        }
+        if !self.decode_octets(found.digits)? {
             return Ok(false);
         }
+        self.has_octets(line, found)
+    }
+
+    /// Puts the words of the line's data in place of what `words` held. `false`: no items state the
+    /// octets.
+    fn find_words(&mut self, found: &GenericLine) -> Result<bool, AllocError>
+        requires { AreOfAType (of_code found.now.further.now.fields) }
+        ensures yes { result ≡ Ok true → AreItsWords (of_code found.now.further.now.fields)
+            self.old.octets.items self.new.words.items }
+        ensures no { result ≡ Ok false
+            → HasNoWords (of_code found.now.further.now.fields) self.old.octets.items }
+        ensures octets { self.new.octets.items ≡ self.old.octets.items }
+    {
         match print_data(found.further.fields, &self.octets, &mut self.words) {
             Ok(()) => Ok(true),
             Err(Unprinted::NoData) => Ok(false),
@@ -160,51 +201,61 @@ impl LinePrinter {
         }
     }
 
-    /// Puts the line in words in place of what `shown` held. Whether that is its record in words.
-    fn shows_whole(&mut self, line: &[u8], found: &GenericLine) -> Result<bool, AllocError>
-        requires found { FoundIn line.now found.now }
-        requires words { ArePrinted self.old.words.items }
-        ensures shown { result ≡ Ok true → IsShownLine line.now self.new.shown.items }
+    /// Puts the line in words in place of what `shown` held.
+    fn put_shown(&mut self, found: &GenericLine) -> Result<(), AllocError>
+        ensures shown { OnOk result (self.new.shown.items ≡ (found.now.stem.now ++ 32 ∷ [])
+            ++ (found.now.further.now.mnemonic.now ++ (self.old.words.items
+            ++ found.now.end.now))) }
+        ensures octets { self.new.octets.items ≡ self.old.octets.items }
         ensures words { self.new.words.items ≡ self.old.words.items }
     {
-        put_shown(found.ahead, found, &self.words, found.end, &mut self.shown)?;
-        is_in_words(self.alloc, &mut self.reader, &self.shown, line)
+        self.shown.clear();
+        self.shown.extend_from_slice(found.stem)?;
+        self.shown.push(b' ')?;
+        self.shown
+            .extend_from_slice(found.further.mnemonic.as_bytes())?;
+        self.shown.extend_from_slice(&self.words)?;
+        self.shown.extend_from_slice(found.end)
     }
 
-    /// Puts the line in words in place of what `shown` held. Whether the line isn't one record that
-    /// states its class, and its record by itself is shown so.
-    fn shows_after_others(&mut self, line: &[u8], found: &GenericLine) -> Result<bool, AllocError>
-        requires found { FoundIn line.now found.now }
-        requires words { ArePrinted self.old.words.items }
-        ensures { result ≡ Ok true → IsShownLine line.now self.new.shown.items }
+    /// Whether the line, if it is one record that states its class, is the record that it is in
+    /// words.
+    fn fits(&mut self, line: &[u8], found: &GenericLine) -> Result<bool, AllocError>
+        requires canonical { IsCanonicalLine found.now → Fits line.now self.old.shown.items }
+        ensures yes { result ≡ Ok true → Fits line.now self.new.shown.items }
+        ensures no { result ≡ Ok false → DoesNotFit line.now self.old.shown.items }
+        ensures shown { self.new.shown.items ≡ self.old.shown.items }
     {
-        let mut items = room_for_items(self.alloc)?;
-        let ClassStated::No = class_stated(line, &mut items)? else {
-            return Ok(false);
-        };
-        put_wanted(found, &mut self.wanted)?;
-        put_shown(b" ", found, &self.words, b"\n", &mut self.shown)?;
-        if !is_in_words(self.alloc, &mut self.reader, &self.shown, &self.wanted)? {
-            return Ok(false);
+        if is_canonical(found) {
+            return Ok(true);
         }
-        put_shown(found.ahead, found, &self.words, found.end, &mut self.shown)?;
-        Ok(true)
+        let mut items = room_for_items(self.alloc)?;
+        match class_stated(line, &mut items)? {
+            ClassStated::No => Ok(true),
+            ClassStated::Untold => Ok(false),
+            ClassStated::Yes => is_in_words(self.alloc, &mut self.reader, &self.shown, line),
+        }
     }
 
-    /// Whether the line is shown in words, which come in place of what `shown` held.
+    /// Whether the line is shown in words, which come in place of what `shown` held. `false`: it
+    /// stays.
     fn shows(&mut self, line: &[u8]) -> Result<bool, AllocError>
-        ensures { result ≡ Ok true → IsShownLine line.now self.new.shown.items }
+        ensures yes { result ≡ Ok true → IsShownLine line.now self.new.shown.items }
+        ensures no { result ≡ Ok false → IsShownLine line.now line.now }
     {
         let Some(found) = generic_line(line) else {
             return Ok(false);
         };
+        if !self.find_octets(line, &found)? {
+            return Ok(false);
+        }
         if !self.find_words(&found)? {
             return Ok(false);
         }
-        if self.shows_whole(line, &found)? {
-            return Ok(true);
-        }
-        self.shows_after_others(line, &found)
+        self.put_shown(&found)?;
+        a_line_in_words_is_rewritten();
+        the_words_of_data();
+        self.fits(line, &found)
     }
 
     /// Appends what is shown for a line.
@@ -237,9 +288,11 @@ impl LinePrinter {
     }
 }
 
-/// A line, with its line feed if it has one, or the line in words: where it ends with a class word,
-/// the word of a further type and the generic form, and where the words of that data, read again,
-/// are this form (RFC 3597 5). All before the type stays.
+/// What is shown for a line, with its line feed if it has one. Where it ends with a class word, the
+/// type `TYPEn` of a further type and the generic form of octets as it is printed (RFC 3597 5), the
+/// type gets its mnemonic and the octets the words that are printed for them. The line stays where
+/// it ends with none, where no items state the octets, where it is a record of which they aren't
+/// the data, and where it is one entry of very many items. All before the type stays.
 ///
 /// # Errors
 ///

@@ -4,6 +4,7 @@ use Rattle.zone_name.specs.Spelling.{is_digit}
 use Rattle.zone_words.proofs.Numbers.{decimal_once}
 use Rattle.zone_words.specs.Kinds.Gateway.{FailsUpTo, StatesUpTo, no_digits, too_great}
 use Rattle.zone_words.specs.Machine.Numbers.{IsOver}
+use Rattle.zone_words.specs.Table.{amtrelay_by, ipseckey_by}
 
 -- ---- numbers up to a greatest
 
@@ -31,7 +32,7 @@ capped_over text most (Some n) fault small found none over =
 
 -- ---- the number of an item
 
-of_digits : (text : List ℕ) (n : ℕ) → IsDecimal text n → digits_number text ≡ Some n
+pub of_digits : (text : List ℕ) (n : ℕ) → IsDecimal text n → digits_number text ≡ Some n
 of_digits [] n is = absurd (omega (arith, is.some))
 of_digits (c ∷ text) n is = rw (list_all-from_AllPass is_digit (c ∷ text) (All-from_recursion (λ d. is_digit d ≡ true) (c ∷ text) is.digits)) (ap Some (sym is.value))
 
@@ -61,3 +62,16 @@ key_of_capped (Some n) = rw (small_test n 0 (omega arith)) refl
 pub one_of_capped : (number : Option ℕ) → is_one (option_map (min 4294967296) number) ≡ is_one number
 one_of_capped None = refl
 one_of_capped (Some n) = small_test n 1 (omega arith)
+
+-- and so have the fields that they give
+pub ipseckey_of_capped : (gateway algorithm g a : Option ℕ) → g ≡ option_map (min 4294967296) gateway → a ≡ option_map (min 4294967296) algorithm → ipseckey_by g a ≡ ipseckey_by gateway algorithm
+ipseckey_of_capped gateway algorithm g a g_is a_is =
+    let kind : address_kind g ≡ address_kind gateway = ap address_kind g_is ∙ address_of_capped gateway in
+    let key : key_kind a ≡ key_kind algorithm = ap key_kind a_is ∙ key_of_capped algorithm in
+    rw (kind, key) refl
+
+pub amtrelay_of_capped : (discovery relay d r : Option ℕ) → d ≡ option_map (min 4294967296) discovery → r ≡ option_map (min 4294967296) relay → amtrelay_by d r ≡ amtrelay_by discovery relay
+amtrelay_of_capped discovery relay d r d_is r_is =
+    let optional : is_one d ≡ is_one discovery = ap is_one d_is ∙ one_of_capped discovery in
+    let kind : address_kind r ≡ address_kind relay = ap address_kind r_is ∙ address_of_capped relay in
+    rw (optional, kind) refl

@@ -37,14 +37,14 @@ key_too_long text old key empty many more = long_key key (subst (IsBase64 text) 
 
 -- ---- the parts of data
 
-record HipParts (parts : List (List ℕ)) : Type 0 where
-  algorithm : ℕ
-  tag : List ℕ
-  high : ℕ
-  low : ℕ
-  key : List ℕ
-  servers : List ℕ
-  are : parts ≡ (algorithm ∷ []) ∷ (length tag ∷ tag) ∷ (high ∷ low ∷ key) ∷ servers ∷ []
+pub record HipParts (parts : List (List ℕ)) : Type 0 where
+  pub algorithm : ℕ
+  pub tag : List ℕ
+  pub high : ℕ
+  pub low : ℕ
+  pub key : List ℕ
+  pub servers : List ℕ
+  pub are : parts ≡ (algorithm ∷ []) ∷ (length tag ∷ tag) ∷ (high ∷ low ∷ key) ∷ servers ∷ []
 
 record OneOctet (octets : List ℕ) : Type 0 where
   octet : ℕ
@@ -64,18 +64,21 @@ after_one origin [] octets p = absurd p
 after_one origin (quoted text ∷ items) octets p = absurd p
 after_one origin (bare text ∷ items) octets p = record { value = p.value; is = p.written }
 
-record AfterTwo (octets : List ℕ) : Type 0 where
-  high : ℕ
-  low : ℕ
-  value : List ℕ
-  is : octets ≡ high ∷ low ∷ value
+pub record AfterTwo (octets : List ℕ) : Type 0 where
+  pub high : ℕ
+  pub low : ℕ
+  pub value : List ℕ
+  pub is : octets ≡ high ∷ low ∷ value
+
+pub key_after : (text octets : List ℕ) → StatesPublicKey text octets → AfterTwo octets
+key_after text octets p = record { high = _; low = _; value = p.key; is = p.written }
 
 after_two : (origin : Labels) (items : List RawItem) (octets : List ℕ) → FirstStates (StatesBare origin PublicKey) items octets → AfterTwo octets
 after_two origin [] octets p = absurd p
 after_two origin (quoted text ∷ items) octets p = absurd p
-after_two origin (bare text ∷ items) octets p = record { high = _; low = _; value = p.key; is = p.written }
+after_two origin (bare text ∷ items) octets p = key_after text octets p
 
-hip_parts : (origin : Labels) (items : List TouchingItem) (parts : List (List ℕ)) → StateParts origin hip_fields items parts → HipParts parts
+pub hip_parts : (origin : Labels) (items : List TouchingItem) (parts : List (List ℕ)) → StateParts origin hip_fields items parts → HipParts parts
 hip_parts origin items [] p = absurd p
 hip_parts origin items (a ∷ []) p = absurd p.1
 hip_parts origin items (a ∷ t ∷ []) p = absurd p.1.1
@@ -89,10 +92,10 @@ hip_parts origin items (a ∷ t ∷ k ∷ s ∷ []) p =
 
 -- ---- both lengths put first
 
-in_words : (parts : List (List ℕ)) (p : HipParts parts) → joined parts ≡ p.algorithm ∷ length p.tag ∷ (p.tag ++ p.high ∷ p.low ∷ (p.key ++ p.servers))
+pub in_words : (parts : List (List ℕ)) (p : HipParts parts) → joined parts ≡ p.algorithm ∷ length p.tag ∷ (p.tag ++ p.high ∷ p.low ∷ (p.key ++ p.servers))
 in_words parts p = ap joined p.are ∙ ap (λ s. p.algorithm ∷ length p.tag ∷ (p.tag ++ p.high ∷ p.low ∷ (p.key ++ s))) (append-nil p.servers)
 
-in_octets : (parts : List (List ℕ)) (p : HipParts parts) → lengths_first parts ≡ length p.tag ∷ p.algorithm ∷ p.high ∷ p.low ∷ (p.tag ++ (p.key ++ p.servers))
+pub in_octets : (parts : List (List ℕ)) (p : HipParts parts) → lengths_first parts ≡ length p.tag ∷ p.algorithm ∷ p.high ∷ p.low ∷ (p.tag ++ (p.key ++ p.servers))
 in_octets parts p = ap lengths_first p.are ∙ append_assoc (length p.tag ∷ p.algorithm ∷ p.high ∷ p.low ∷ p.tag) p.key p.servers
 
 -- the octets are as many

@@ -10,7 +10,7 @@ pub mod OneRewriting
 pub mod OwnRewriting
 mod EntryShapes
 mod CutEntries
-mod WrittenWords
+pub mod WrittenWords
 mod KeptEntries
 pub mod RewrittenCut
 mod SameStatements

@@ -5,6 +5,11 @@ pub mod Pairs
 pub mod Counted
 pub mod PassedNone
 pub mod Tags
+pub mod Gateways
+pub mod HostIdentity
+pub mod OwnFields
+pub mod HostIdentityData
+pub mod Relays
 pub mod Digits
 pub mod Strings
 pub mod Base64Items

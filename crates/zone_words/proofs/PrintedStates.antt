@@ -1,11 +1,11 @@
 -- What is printed for data states it, under every origin.
-use Rattle.zone_words.proofs.Common.{AllZip, IsDecimal, Labels, List, NamedField, RawItem, StateParts, StatesBare, StatesData, StatesField, TouchingItem, [], ap, arith, drop, false, false≢true, items_after, length, length-append, length-map, map, min, own_count, own_items, placed, refl, subst, sym, take, text_meaning, true, ℕ, ◌++◌, ◌∙◌, ◌∷◌, ◌≡◌, ◌≤◌}
+use Rattle.zone_words.proofs.Common.{AllZip, Labels, List, NamedField, RawItem, StateParts, StatesBare, StatesData, StatesField, TouchingItem, [], ap, arith, drop, false, false≢true, items_after, length, length-append, length-map, map, min, own_count, own_items, placed, refl, subst, sym, take, text_meaning, true, ℕ, ◌++◌, ◌∙◌, ◌∷◌, ◌≡◌, ◌≤◌}
 use Rattle.std.proofs.Math.Seq.{drop-append_seam, take-append_seam}
-use Rattle.zone_rdata.proofs.Items.GenericLaws.{decimal-is}
 use Rattle.zone_rdata.proofs.Strings.StringLaws.{printed_spells}
 use Rattle.zone_rdata.specs.Item.{bare}
 use Rattle.zone_words.proofs.OfParameters.PrintedStated.{parameters_printed_state}
 use Rattle.zone_words.proofs.Printed.Addresses.{ipv4_printed_states, ipv6_printed_states}
+use Rattle.zone_words.proofs.Printed.Gateways.{discovery_states, gateway_states}
 use Rattle.zone_words.proofs.Printed.Location.{location_printed_states}
 use Rattle.zone_words.proofs.Printed.Numbers.{algorithm_printed_states, certificate_printed_states, type_printed_states, u16_printed_states, u32_printed_states, u8_printed_states}
 use Rattle.zone_words.proofs.Printed.PairLaws.{eui_printed_states, node_id_printed_states}
@@ -21,7 +21,6 @@ use Rattle.zone_words.specs.Data.{in_order, left_over}
 use Rattle.zone_words.specs.DataItem.{items_of}
 use Rattle.zone_words.specs.EachItem.{EachIsPrinted, EachStates}
 use Rattle.zone_words.specs.FirstItem.{FirstStates}
-use Rattle.zone_words.specs.Kinds.Gateway.{PrintsUpTo, StatesUpTo}
 use Rattle.zone_words.specs.Kinds.Hash.{PrintsHash, StatesHash}
 use Rattle.zone_words.specs.Kinds.Joined.{PrintsOneItem}
 use Rattle.zone_words.specs.Kinds.Strings.{PrintsPerhaps, PrintsStringItem, StatesPerhaps, StatesString}
@@ -34,16 +33,6 @@ use Rattle.zone_words.specs.declared.field.FieldKind.{FieldKind}
 use Rattle.zone_words.specs.declared.field.FieldKind.TheVariants.{Bare, Base64, Each, Hex, Location, Nothing, OneString, Parameters, PerhapsOneString, PerhapsTypes, Prefixes, QuotedValue, Strings, Types, Value}
 
 -- ---- a bare text
-
-up_to_states : (most : ℕ) (octets_of : ℕ → List ℕ) (text octets : List ℕ) → most ≤ 9 → PrintsUpTo most octets_of text octets → StatesUpTo most octets_of text octets
-up_to_states most octets_of text octets low printed =
-    let few = printed.few in
-    record {
-      number = printed.number;
-      stated = subst (λ t. IsDecimal t printed.number) (sym printed.printed) (decimal-is printed.number (omega (arith, few, low)));
-      few = printed.few;
-      value = printed.value;
-    }
 
 pub hash_printed_states : (text octets : List ℕ) → PrintsHash text octets → StatesHash text octets
 hash_printed_states text octets printed = record { value = printed.value; stands = printed.stands.is; short = printed.short; written = printed.written }
@@ -62,8 +51,8 @@ bare_printed_states origin Hash text octets printed = hash_printed_states text o
 bare_printed_states origin Tag text octets printed = tag_printed_states text octets printed
 bare_printed_states origin Ipv4 text octets printed = ipv4_printed_states text octets printed
 bare_printed_states origin Ipv6 text octets printed = ipv6_printed_states text octets printed
-bare_printed_states origin (AddressType optional) text octets printed = up_to_states 3 _ text octets (omega arith) printed
-bare_printed_states origin Discovery text octets printed = up_to_states 1 _ text octets (omega arith) printed
+bare_printed_states origin (AddressType optional) text octets printed = gateway_states optional text octets printed
+bare_printed_states origin Discovery text octets printed = discovery_states text octets printed
 bare_printed_states origin NoAddress text octets printed = printed
 bare_printed_states origin NodeId text octets printed = node_id_printed_states text octets printed
 bare_printed_states origin Eui48 text octets printed = eui_printed_states 6 text octets printed

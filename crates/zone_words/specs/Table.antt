@@ -94,20 +94,26 @@ abbrev pub is_one : Option ℕ → Bool
 is_one None = false
 is_one (Some n) = n == 1
 
--- RFC 4025 2, 3
-abbrev pub ipseckey_fields : List TouchingItem → List NamedField
-ipseckey_fields items =
+-- those of IPSECKEY by the type of its gateway and the algorithm of its key (RFC 4025 2, 3)
+abbrev pub ipseckey_by : Option ℕ → Option ℕ → List NamedField
+ipseckey_by gateway algorithm =
     field (codes "precedence") (Bare U8) ∷ field (codes "gateway type") (Bare (AddressType false))
-    ∷ field (codes "algorithm") (Bare U8)
-    ∷ field (codes "gateway") (Bare (address_kind (number_at items 1)))
-    ∷ field (codes "public key") (key_kind (number_at items 2)) ∷ []
+    ∷ field (codes "algorithm") (Bare U8) ∷ field (codes "gateway") (Bare (address_kind gateway))
+    ∷ field (codes "public key") (key_kind algorithm) ∷ []
 
--- RFC 8777 4
-abbrev pub amtrelay_fields : List TouchingItem → List NamedField
-amtrelay_fields items =
+abbrev pub ipseckey_fields : List TouchingItem → List NamedField
+ipseckey_fields items = ipseckey_by (number_at items 1) (number_at items 2)
+
+-- those of AMTRELAY by whether its discovery is optional, 1 or 0, and the type of its relay (RFC
+-- 8777 4)
+abbrev pub amtrelay_by : Option ℕ → Option ℕ → List NamedField
+amtrelay_by discovery relay =
     field (codes "precedence") (Bare U8) ∷ field (codes "discovery optional") (Bare Discovery)
-    ∷ field (codes "type") (Bare (AddressType (is_one (number_at items 1))))
-    ∷ field (codes "relay") (Bare (address_kind (number_at items 2))) ∷ []
+    ∷ field (codes "type") (Bare (AddressType (is_one discovery)))
+    ∷ field (codes "relay") (Bare (address_kind relay)) ∷ []
+
+abbrev pub amtrelay_fields : List TouchingItem → List NamedField
+amtrelay_fields items = amtrelay_by (number_at items 1) (number_at items 2)
 
 -- ---- fields whose octets stand in another order
 

@@ -3,7 +3,7 @@ ghost use Rattle.std.specs.Prelude.{◌≡◌, ◌==◌, map, min, option_map};
 ghost use Rattle.zone_rdata.specs.Item.{raw};
 ghost use Rattle.zone_words.specs.DataItem.{given};
 ghost use Rattle.zone_words.specs.Kinds.Number.{stated_number};
-ghost use Rattle.zone_words.specs.Table.{address_kind, amtrelay_fields, field_of, hip_fields, ipseckey_fields, is_one, key_kind, number_at};
+ghost use Rattle.zone_words.specs.Table.{address_kind, amtrelay_by, amtrelay_fields, field_of, hip_fields, ipseckey_by, ipseckey_fields, is_one, key_kind, number_at};
 
 use crate::data_item::DataItem;
 use crate::field::BareKind::{
@@ -33,8 +33,15 @@ pub enum Fields {
 pub(crate) fn ipseckey_fields(items: &[DataItem]) -> [Field; 5]
     ensures { map field_of result ≡ ipseckey_fields (map given items.now) }
 {
-    let gateway = address_kind(number_at(items, 1));
-    let key = key_kind(number_at(items, 2));
+    ipseckey_by(number_at(items, 1), number_at(items, 2))
+}
+
+/// The fields of IPSECKEY data by the type of its gateway and the algorithm of its key.
+pub(crate) fn ipseckey_by(gateway: Option<u64>, algorithm: Option<u64>) -> [Field; 5]
+    ensures { map field_of result ≡ ipseckey_by gateway algorithm }
+{
+    let gateway = address_kind(gateway);
+    let key = key_kind(algorithm);
     [
         Field("precedence", Bare(U8)),
         Field("gateway type", Bare(AddressType(false))),
@@ -48,8 +55,16 @@ pub(crate) fn ipseckey_fields(items: &[DataItem]) -> [Field; 5]
 pub(crate) fn amtrelay_fields(items: &[DataItem]) -> [Field; 4]
     ensures { map field_of result ≡ amtrelay_fields (map given items.now) }
 {
-    let optional = is_one(number_at(items, 1));
-    let relay = address_kind(number_at(items, 2));
+    amtrelay_by(number_at(items, 1), number_at(items, 2))
+}
+
+/// The fields of AMTRELAY data by whether its discovery is optional, 1 or 0, and the type of its
+/// relay.
+pub(crate) fn amtrelay_by(discovery: Option<u64>, relay: Option<u64>) -> [Field; 4]
+    ensures { map field_of result ≡ amtrelay_by discovery relay }
+{
+    let optional = is_one(discovery);
+    let relay = address_kind(relay);
     [
         Field("precedence", Bare(U8)),
         Field("discovery optional", Bare(Discovery)),

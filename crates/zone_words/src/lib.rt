@@ -40,3 +40,4 @@ pub use refusal::{Refusal, Refusals};
 pub use rewriter::{Rewriter, Rewritten, rewrite_file};
 pub use table::{FurtherType, further_type_of};
 pub use unprinted::Unprinted;
+pub use writing::push_generic;

@@ -1,6 +1,7 @@
 //! The words that are printed for a type's data.
 ghost use Rattle.std.specs.Prelude.{◌≤◌, IfErr, OnOk, length, map};
 ghost use Rattle.zone_rdata.specs.Limits.{longest_data};
+ghost use Rattle.zone_words.specs.Machine.HostIdentity.{HasNoLengthsFirst, PutsLengthsWithin};
 ghost use Rattle.zone_words.specs.Machine.PrintedFields.{OnlyLastPrintsAll};
 ghost use Rattle.zone_words.specs.Parameters.Printed.{PrintsTouching};
 ghost use Rattle.zone_words.specs.Printed.{ArePrinted, IfNoData};
@@ -8,7 +9,9 @@ ghost use Rattle.zone_words.specs.PrintedData.{AreItsWords, AreOfAType, HasNoWor
 ghost use Rattle.zone_words.specs.Table.{field_of, of_amtrelay, of_code, of_hip, of_ipseckey};
 
 use crate::field::Field;
-use crate::fields::Fields;
+use crate::fields::{Fields, amtrelay_by, hip_fields, ipseckey_by};
+use crate::kinds::{print_discovery, print_u8};
+use crate::taking::{take, take_u8};
 use crate::unprinted::Unprinted;
 
 /// The most octets of data (RFC 1035 3.2.1).
@@ -74,7 +77,11 @@ fn print_ipseckey(octets: &[u8], out: &mut Vec<u8>) -> Result<(), Unprinted>
         (PrintsTouching (PrintsData of_ipseckey) octets.now out.old.items out.new.items) }
     ensures none { IfErr result (IfNoData (HasNoWords of_ipseckey octets.now)) }
 {
-    Err(Unprinted::NoData)
+    let [_, gateway, algorithm, ..] = octets else {
+        return Err(Unprinted::NoData);
+    };
+    let fields = ipseckey_by(Some(u64::from(*gateway)), Some(u64::from(*algorithm)));
+    print_fields(&fields, octets, out)
 }
 
 /// Appends the words of AMTRELAY data (RFC 8777 4.3.1).
@@ -88,7 +95,14 @@ fn print_amtrelay(octets: &[u8], out: &mut Vec<u8>) -> Result<(), Unprinted>
         (PrintsTouching (PrintsData of_amtrelay) octets.now out.old.items out.new.items) }
     ensures none { IfErr result (IfNoData (HasNoWords of_amtrelay octets.now)) }
 {
-    Err(Unprinted::NoData)
+    out.push(b' ')?;
+    let rest = print_u8(octets, out)?;
+    out.push(b' ')?;
+    print_discovery(rest, out)?;
+    // The highest bit of the relay's octet is whether its discovery is optional.
+    let (octet, _) = take_u8(rest)?;
+    let fields = amtrelay_by(Some(u64::from(octet / 128)), Some(u64::from(octet % 128)));
+    print_fields(&fields[2..], rest, out)
 }
 
 /// Appends the words of HIP data (RFC 8005 6).
@@ -102,5 +116,29 @@ fn print_hip(octets: &[u8], out: &mut Vec<u8>) -> Result<(), Unprinted>
         (PrintsTouching (PrintsData of_hip) octets.now out.old.items out.new.items) }
     ensures none { IfErr result (IfNoData (HasNoWords of_hip octets.now)) }
 {
-    Err(Unprinted::NoData)
+    let mut ordered = Vec::new(*out.allocator());
+    push_lengths_within(octets, &mut ordered)?;
+    print_fields(&hip_fields(), &ordered, out)
+}
+
+/// Appends the octets of HIP data in the order of its fields: the lengths of the tag and of the key,
+/// which stand before both, each before its own (RFC 8005 5, 6).
+///
+/// # Errors
+///
+/// `NoData` where the octets end before the tag does, and `OutOfMemory`.
+fn push_lengths_within(octets: &[u8], out: &mut Vec<u8>) -> Result<(), Unprinted>
+    ensures put { OnOk result
+        (PutsLengthsWithin octets.now out.old.items out.new.items) }
+    ensures none { IfErr result (IfNoData (HasNoLengthsFirst octets.now)) }
+{
+    let (tag_len, rest) = take_u8(octets)?;
+    let (algorithm, rest) = take_u8(rest)?;
+    let (key_len, rest) = take(rest, 2)?;
+    let (tag, rest) = take(rest, usize::from(tag_len))?;
+    out.extend_from_slice(&[algorithm, tag_len])?;
+    out.extend_from_slice(tag)?;
+    out.extend_from_slice(key_len)?;
+    out.extend_from_slice(rest)?;
+    Ok(())
 }

@@ -140,10 +140,9 @@ fn print_nothing(octets: &[u8]) -> Result<(), Unprinted>
     ensures done { OnOk result (octets.now ≡ []) }
     ensures none { IfErr result (IfNoData (HasNoOwn kinds.Nothing octets.now)) }
 {
-    if octets.is_empty() {
-        Ok(())
-    } else {
-        Err(Unprinted::NoData)
+    match octets {
+        [] => Ok(()),
+        _ => Err(Unprinted::NoData),
     }
 }
 

@@ -20,8 +20,13 @@ fn push_type(number: u16, out: &mut Vec<u8>) -> Result<(), AllocError>
     Ok(())
 }
 
-/// Appends type and octets in the generic form (RFC 3597 5).
-fn push_generic(number: u16, octets: &[u8], out: &mut Vec<u8>) -> Result<(), AllocError>
+/// Appends the type of a number and octets in the generic form: `TYPE` and the number, and the octets
+/// in lower-case hexadecimal digits, parted by single blanks (RFC 3597 5).
+///
+/// # Errors
+///
+/// `AllocError`. `out` may have some of the octets.
+pub fn push_generic(number: u16, octets: &[u8], out: &mut Vec<u8>) -> Result<(), AllocError>
     ensures { OnOk result
         (out.new.items ≡ out.old.items ++ text (generic_tokens number octets.now)) }
 {

@@ -1,5 +1,5 @@
 //! Gateways and relays (RFC 4025, RFC 8777).
-ghost use Rattle.std.specs.Prelude.{◌≡◌, ◌≤◌, map, IfErr, IfOk, OnOk};
+ghost use Rattle.std.specs.Prelude.{◌≡◌, ◌≤◌, ◌/◌, ◌++◌, decimal, map, slice_index, IfErr, IfOk, OnOk};
 ghost use Rattle.zone_words.specs.DataItem.{raw_item};
 ghost use Rattle.zone_words.specs.Fault.{AppendsStated, IfFault};
 ghost use Rattle.zone_words.specs.Kinds.Gateway.{FailsAddressType, FailsDiscovery, FailsNoAddress, FailsNothing, PrintsAddressType, PrintsDiscovery, StatesAddressType, StatesDiscovery, StatesNoAddress, StatesNothing, discovery_bit};
@@ -126,13 +126,15 @@ pub(crate) fn print_discovery<'o>(
     ensures printed { IfOk result (λ rest.
         PrintsFront PrintsDiscovery StatesDiscovery octets.now rest.now out.old.items
         out.new.items) }
+    ensures text { IfOk result (λ rest.
+        out.new.items ≡ out.old.items ++ decimal (slice_index octets.now 0 / 128)) }
     ensures none { IfErr result (IfNoData (NoFront StatesDiscovery octets.now)) }
 {
-    let optional = match octets {
-        [octet, ..] => *octet >= 128,
-        [] => false,
+    let bit = match octets {
+        [octet, ..] => *octet / 128,
+        [] => 0,
     };
-    out.push(if optional { b'1' } else { b'0' })?;
+    print_decimal(u32::from(bit), out)?;
     Ok(octets)
 }
 

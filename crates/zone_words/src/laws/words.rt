@@ -16,12 +16,6 @@ ghost use Rattle.zone_words.specs.PrintedData.{AreOfAType, PrintsData};
 ghost use Rattle.zone_words.specs.Table.{Fields, FurtherType, further_type};
 ghost use Rattle.zone_words.specs.WordsLine.{AreWords, IsHead, generic_line, words_line};
 
-/// The items that are printed for the data of a further type are words of it.
-pub fn the_words_of_data()
-    ensures { (fields : Fields) → AreOfAType fields → (items : List TouchingItem)
-        (octets : List ℕ) → PrintsData fields items octets → AreWords fields items octets }
-{}
-
 /// The line of a record with the words of its data is one entry, which states its
 /// class, and it is rewritten, under every origin, as the line with that data in the generic form.
 pub fn a_line_in_words_is_rewritten()
@@ -46,4 +40,10 @@ pub fn a_generic_line_is_one_entry()
         × IsOneEntry (generic_line head further octets) tokens
         × (flat_map item_of tokens ≡ bare h.owner ∷ bare h.ttl ∷ bare h.word
         ∷ bare (codes "TYPE" ++ decimal further.number) ∷ generic_items octets) }
+{}
+
+/// The items that are printed for a type's data are the words of that data.
+pub fn the_words_of_data()
+    ensures { (fields : Fields) (items : List TouchingItem) (octets : List ℕ)
+        → AreOfAType fields → PrintsData fields items octets → AreWords fields items octets }
 {}

@@ -6,7 +6,7 @@ use Rattle.zone_words.proofs.laws.words.the_words_of_data.Goals as goal
 use Rattle.zone_words.specs.Table.{fields_in}
 
 pub returns : goal.returns
-returns c fields are items octets printed = record {
+returns c fields items octets are printed = record {
   states = printed_data_states fields are items octets printed;
   stand = printed_data_stands (fields_in fields items) items printed.parts printed.each;
   few = few_printed_items fields are items octets printed;

@@ -1,0 +1,7 @@
+use Rattle.words_print.proofs.Cuts.{around_first_at}
+use Rattle.words_print.proofs.generic_line.around_first.Goals as goal
+
+pub returns-clause-some : goal.returns-clause-some
+returns-clause-some c =
+    around_first_at c.args.octet c.args.octets.now _ _ _ c.in_ok-place.place c.split_at.ensures.front c.split_at.ensures.back c.split_at-2.ensures.back
+    c.in_ok-place.ensures.0.high c.in_ok-place.ensures.0.before c.in_ok-place.ensures.1
