@@ -317,7 +317,7 @@ further_of row =
 
 abbrev pub registered_of : coded_types.RegisteredType → RegisteredType
 registered_of (coded_type.InWords row) = in_words (further_of row)
-registered_of (coded_type.NameOnly number mnemonic) = name_only number mnemonic.now
+registered_of (coded_type.NameOnly name) = name_only name.0 name.1.now
 
 -- the further type of a number
 abbrev pub further_type : ℕ → Option FurtherType

@@ -11,7 +11,7 @@ use zone_rdata::{Kind, Row, number_of_word, row_of};
 
 /// A number and its mnemonic.
 #[derive(Clone, Copy, Debug)]
-pub(crate) struct Mnemonic(u16, &'static [u8]);
+pub(crate) struct Mnemonic(pub(crate) u16, pub(crate) &'static [u8]);
 
 impl Row for Mnemonic {
     ghost use Rattle.zone_rdata.specs.Table.{Named};

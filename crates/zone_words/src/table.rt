@@ -19,6 +19,7 @@ use crate::field::FieldKind::{
     QuotedValue, Strings, Types, Value,
 };
 use crate::fields::Fields::{self, Amtrelay, Hip, Ipseckey, Same};
+use crate::mnemonics::Mnemonic;
 use RegisteredType::{InWords, NameOnly};
 use zone_rdata::{Row, number_of_word, row_of};
 
@@ -38,8 +39,8 @@ pub struct FurtherType {
 pub(crate) enum RegisteredType {
     /// One whose data is read in words here.
     InWords(FurtherType),
-    /// One that stands in data alone: its number and its mnemonic, in upper case.
-    NameOnly(u16, &'static str),
+    /// One that stands in data alone.
+    NameOnly(Mnemonic),
 }
 
 impl Row for RegisteredType {
@@ -48,14 +49,14 @@ impl Row for RegisteredType {
     fn number(&self) -> u16 {
         match self {
             InWords(further) => further.number,
-            NameOnly(number, _) => *number,
+            NameOnly(name) => name.0,
         }
     }
 
     fn mnemonic(&self) -> &'static [u8] {
         match self {
             InWords(further) => further.mnemonic.as_bytes(),
-            NameOnly(_, mnemonic) => mnemonic.as_bytes(),
+            NameOnly(name) => name.1,
         }
     }
 }
@@ -68,7 +69,7 @@ impl RegisteredType {
     {
         match self {
             InWords(further) => Some(further),
-            NameOnly(..) => None,
+            NameOnly(_) => None,
         }
     }
 }
@@ -117,25 +118,25 @@ fn further_type_counted(number: u64) -> Option<&'static FurtherType>
 /// The registered types (RFC 6895 3.1). The definitions have the same rows.
 #[rattlefmt::skip]
 pub(crate) static TYPES: &[RegisteredType] = &[
-    NameOnly(1, "A"),
-    NameOnly(2, "NS"),
-    NameOnly(3, "MD"),
-    NameOnly(4, "MF"),
-    NameOnly(5, "CNAME"),
-    NameOnly(6, "SOA"),
-    NameOnly(7, "MB"),
-    NameOnly(8, "MG"),
-    NameOnly(9, "MR"),
-    NameOnly(10, "NULL"),
-    NameOnly(11, "WKS"),
-    NameOnly(12, "PTR"),
+    NameOnly(Mnemonic(1, b"A")),
+    NameOnly(Mnemonic(2, b"NS")),
+    NameOnly(Mnemonic(3, b"MD")),
+    NameOnly(Mnemonic(4, b"MF")),
+    NameOnly(Mnemonic(5, b"CNAME")),
+    NameOnly(Mnemonic(6, b"SOA")),
+    NameOnly(Mnemonic(7, b"MB")),
+    NameOnly(Mnemonic(8, b"MG")),
+    NameOnly(Mnemonic(9, b"MR")),
+    NameOnly(Mnemonic(10, b"NULL")),
+    NameOnly(Mnemonic(11, b"WKS")),
+    NameOnly(Mnemonic(12, b"PTR")),
     // RFC 1035 3.3.2
     InWords(FurtherType { number: 13, mnemonic: "HINFO", in_internet_alone: false, fields: Same(&[
         Field("cpu", OneString), Field("os", OneString),
     ]) }),
-    NameOnly(14, "MINFO"),
-    NameOnly(15, "MX"),
-    NameOnly(16, "TXT"),
+    NameOnly(Mnemonic(14, b"MINFO")),
+    NameOnly(Mnemonic(15, b"MX")),
+    NameOnly(Mnemonic(16, b"TXT")),
     // RFC 1183 2.2
     InWords(FurtherType { number: 17, mnemonic: "RP", in_internet_alone: false, fields: Same(&[
         Field("mailbox", Bare(Name)), Field("text", Bare(Name)),
@@ -156,23 +157,23 @@ pub(crate) static TYPES: &[RegisteredType] = &[
     InWords(FurtherType { number: 21, mnemonic: "RT", in_internet_alone: false, fields: Same(&[
         Field("preference", Bare(U16)), Field("host", Bare(Name)),
     ]) }),
-    NameOnly(22, "NSAP"),
-    NameOnly(23, "NSAP-PTR"),
-    NameOnly(24, "SIG"),
-    NameOnly(25, "KEY"),
-    NameOnly(26, "PX"),
-    NameOnly(27, "GPOS"),
-    NameOnly(28, "AAAA"),
+    NameOnly(Mnemonic(22, b"NSAP")),
+    NameOnly(Mnemonic(23, b"NSAP-PTR")),
+    NameOnly(Mnemonic(24, b"SIG")),
+    NameOnly(Mnemonic(25, b"KEY")),
+    NameOnly(Mnemonic(26, b"PX")),
+    NameOnly(Mnemonic(27, b"GPOS")),
+    NameOnly(Mnemonic(28, b"AAAA")),
     // RFC 1876 3
     InWords(FurtherType { number: 29, mnemonic: "LOC", in_internet_alone: false, fields: Same(&[
         Field("data", Location),
     ]) }),
-    NameOnly(30, "NXT"),
-    NameOnly(31, "EID"),
-    NameOnly(32, "NIMLOC"),
-    NameOnly(33, "SRV"),
-    NameOnly(34, "ATMA"),
-    NameOnly(35, "NAPTR"),
+    NameOnly(Mnemonic(30, b"NXT")),
+    NameOnly(Mnemonic(31, b"EID")),
+    NameOnly(Mnemonic(32, b"NIMLOC")),
+    NameOnly(Mnemonic(33, b"SRV")),
+    NameOnly(Mnemonic(34, b"ATMA")),
+    NameOnly(Mnemonic(35, b"NAPTR")),
     // RFC 2230 3.1
     InWords(FurtherType { number: 36, mnemonic: "KX", in_internet_alone: true, fields: Same(&[
         Field("preference", Bare(U16)), Field("exchanger", Bare(Name)),
@@ -182,12 +183,12 @@ pub(crate) static TYPES: &[RegisteredType] = &[
         Field("type", Bare(CertificateType)), Field("key tag", Bare(U16)),
         Field("algorithm", Bare(Algorithm)), Field("certificate", Base64),
     ]) }),
-    NameOnly(38, "A6"),
+    NameOnly(Mnemonic(38, b"A6")),
     // RFC 6672 2.1
     InWords(FurtherType { number: 39, mnemonic: "DNAME", in_internet_alone: false, fields: Same(&[
         Field("target", Bare(Name)),
     ]) }),
-    NameOnly(40, "SINK"),
+    NameOnly(Mnemonic(40, b"SINK")),
     // RFC 3123 4, 5
     InWords(FurtherType { number: 42, mnemonic: "APL", in_internet_alone: true, fields: Same(&[
         Field("data", Prefixes),
@@ -247,9 +248,9 @@ pub(crate) static TYPES: &[RegisteredType] = &[
     ]) }),
     // RFC 8005 6
     InWords(FurtherType { number: 55, mnemonic: "HIP", in_internet_alone: false, fields: Hip }),
-    NameOnly(56, "NINFO"),
-    NameOnly(57, "RKEY"),
-    NameOnly(58, "TALINK"),
+    NameOnly(Mnemonic(56, b"NINFO")),
+    NameOnly(Mnemonic(57, b"RKEY")),
+    NameOnly(Mnemonic(58, b"TALINK")),
     // RFC 7344 3.1
     InWords(FurtherType { number: 59, mnemonic: "CDS", in_internet_alone: false, fields: Same(&[
         Field("key tag", Bare(U16)), Field("algorithm", Bare(Algorithm)),
@@ -282,17 +283,17 @@ pub(crate) static TYPES: &[RegisteredType] = &[
     InWords(FurtherType { number: 65, mnemonic: "HTTPS", in_internet_alone: true, fields: Same(&[
         Field("priority", Bare(U16)), Field("target", Bare(Name)), Field("parameters", Parameters),
     ]) }),
-    NameOnly(66, "DSYNC"),
-    NameOnly(67, "HHIT"),
-    NameOnly(68, "BRID"),
+    NameOnly(Mnemonic(66, b"DSYNC")),
+    NameOnly(Mnemonic(67, b"HHIT")),
+    NameOnly(Mnemonic(68, b"BRID")),
     // RFC 4408 3.1.1
     InWords(FurtherType { number: 99, mnemonic: "SPF", in_internet_alone: false, fields: Same(&[
         Field("data", Strings),
     ]) }),
-    NameOnly(100, "UINFO"),
-    NameOnly(101, "UID"),
-    NameOnly(102, "GID"),
-    NameOnly(103, "UNSPEC"),
+    NameOnly(Mnemonic(100, b"UINFO")),
+    NameOnly(Mnemonic(101, b"UID")),
+    NameOnly(Mnemonic(102, b"GID")),
+    NameOnly(Mnemonic(103, b"UNSPEC")),
     // RFC 6742 2.1
     InWords(FurtherType { number: 104, mnemonic: "NID", in_internet_alone: false, fields: Same(&[
         Field("preference", Bare(U16)), Field("nodeid", Bare(NodeId)),
@@ -325,15 +326,15 @@ pub(crate) static TYPES: &[RegisteredType] = &[
     InWords(FurtherType { number: 257, mnemonic: "CAA", in_internet_alone: false, fields: Same(&[
         Field("flags", Bare(U8)), Field("tag", Bare(Tag)), Field("value", Value),
     ]) }),
-    NameOnly(258, "AVC"),
-    NameOnly(259, "DOA"),
+    NameOnly(Mnemonic(258, b"AVC")),
+    NameOnly(Mnemonic(259, b"DOA")),
     // RFC 8777 4.3
     InWords(FurtherType { number: 260, mnemonic: "AMTRELAY", in_internet_alone: false,
         fields: Amtrelay }),
-    NameOnly(261, "RESINFO"),
-    NameOnly(262, "WALLET"),
-    NameOnly(263, "CLA"),
-    NameOnly(264, "IPN"),
-    NameOnly(32768, "TA"),
-    NameOnly(32769, "DLV"),
+    NameOnly(Mnemonic(261, b"RESINFO")),
+    NameOnly(Mnemonic(262, b"WALLET")),
+    NameOnly(Mnemonic(263, b"CLA")),
+    NameOnly(Mnemonic(264, b"IPN")),
+    NameOnly(Mnemonic(32768, b"TA")),
+    NameOnly(Mnemonic(32769, b"DLV")),
 ];
