@@ -1,5 +1,5 @@
 -- Words of further types are words of registered types, and no further type has a layout.
-use Rattle.zone_words.proofs.Common.{Bool, FurtherType, IsFurtherWord, IsGeneric, IsKindWord, IsMnemonic, IsNumbered, IsWordAmong, List, Named, NamedType, None, Option, RawItem, Some, ap, by_mnemonic, by_number, bytes_eq, bytes_eq-Decides, codes, each_mnemonic, false, false≢true, find, find_mapped, folded_label, folded_octet, found_each, further_names, further_type, further_types, list_all, map-append, mnemonic_among, named, not, not-true, option_map, refl, registered_types, sym, take, true, type_names, types, word_once, ℕ, ◌++◌, ◌==◌, ◌∙◌, ◌∷◌, ◌≡◌}
+use Rattle.zone_words.proofs.Common.{Bool, IfNone, IfSome, IsCapped, NothingIs, drop, inl, subst, inr, ◌||◌, ◌⊎◌, FurtherType, IsFurtherWord, IsGeneric, IsKindWord, IsMnemonic, IsNumbered, IsWordAmong, List, Named, NamedType, None, Option, RawItem, Some, ap, by_mnemonic, by_number, bytes_eq, bytes_eq-Decides, codes, each_mnemonic, false, false≢true, find, find_mapped, folded_label, folded_octet, found_each, further_names, further_type, further_types, list_all, map-append, mnemonic_among, named, not, not-true, option_map, refl, registered_types, sym, take, true, type_names, types, word_once, ℕ, ◌++◌, ◌==◌, ◌∙◌, ◌∷◌, ◌≡◌}
 unfoldable use Rattle.zone_rdata.proofs.Words.OneWord.{is_number, own_numbers, unlike}
 use Rattle.zone_rdata.specs.Layout.{fields_in, layout}
 use Rattle.zone_rdata.specs.Spelling.{States, StatesFor, in_octets, in_words}
@@ -45,6 +45,59 @@ registered_further = registered_word further_names refl
 pub same_number : (word : List ℕ) (n : ℕ) (f : FurtherType) → IsKindWord word n → IsFurtherWord word f → n ≡ f.number
 unfolding is_number own_numbers unlike is_same
 same_number word n f kind further = word_once registered_types (codes "TYPE") refl refl word n f.number (registered_word type_names refl word n kind) (registered_further word f.number further.named)
+
+-- ---- the registered types in two parts, of which each has its words
+
+abbrev pub early_types : List Named
+early_types = take 41 registered_types
+
+abbrev pub late_types : List Named
+late_types = drop 41 registered_types
+
+pub early_word : (word : List ℕ) (n : ℕ) → IsWordAmong early_types (codes "TYPE") word n → IsRegistered word n
+unfolding is_same
+early_word = registered_word early_types refl
+
+pub late_word : (word : List ℕ) (n : ℕ) → IsWordAmong late_types (codes "TYPE") word n → IsRegistered word n
+unfolding is_same
+late_word = registered_word late_types refl
+
+abbrev is_in_a_part : ℕ → List ℕ → Bool
+is_in_a_part n name = is_same (mnemonic_among early_types n) name || is_same (mnemonic_among late_types n) name
+
+either : (a b : Bool) → (a || b) ≡ true → (a ≡ true) ⊎ (b ≡ true)
+either true b e = inl refl
+either false b e = inr e
+
+in_a_part : (n : ℕ) (name : List ℕ) → mnemonic_among registered_types n ≡ Some name → (mnemonic_among early_types n ≡ Some name) ⊎ (mnemonic_among late_types n ≡ Some name)
+unfolding is_same
+in_a_part n name row =
+    elim (either (is_same (mnemonic_among early_types n) name) (is_same (mnemonic_among late_types n) name) (each_mnemonic is_in_a_part registered_types refl n name row)) [
+      | inl e ↦ inl (the_same (mnemonic_among early_types n) name e)
+      | inr e ↦ inr (the_same (mnemonic_among late_types n) name e)
+    ]
+
+-- a word of neither part is that of no registered type
+pub in_neither : (word : List ℕ) → ((n : ℕ) → IsWordAmong early_types (codes "TYPE") word n → ⊥) → ((n : ℕ) → IsWordAmong late_types (codes "TYPE") word n → ⊥) → (n : ℕ) → IsRegistered word n → ⊥
+in_neither word early late n (by_number is) = early n (by_number is)
+in_neither word early late n (by_mnemonic is) =
+    elim (in_a_part n is.name is.row) [
+      | inl row ↦ early n (by_mnemonic (record { name = is.name; row = row; same = is.same }))
+      | inr row ↦ late n (by_mnemonic (record { name = is.name; row = row; same = is.same }))
+    ]
+
+-- the rows of the code are those of a part
+pub late_found : (word : List ℕ) (n : ℕ) (rows : List Named) → rows ≡ late_types → IsCapped (IsWordAmong rows (codes "TYPE") word) n → IsCapped (IsRegistered word) n
+late_found word n rows is capped = (capped.0, (late_word word capped.0 (subst (λ r. IsWordAmong r (codes "TYPE") word capped.0) is capped.1.0), capped.1.1))
+
+pub early_found : (word : List ℕ) (r : Option ℕ) (rows : List Named) → rows ≡ early_types → IfSome r (IsCapped (IsWordAmong rows (codes "TYPE") word)) → IfSome r (IsCapped (IsRegistered word))
+early_found word None rows is found = tt
+early_found word (Some n) rows is capped = (capped.0, (early_word word capped.0 (subst (λ r. IsWordAmong r (codes "TYPE") word capped.0) is capped.1.0), capped.1.1))
+
+pub found_in_neither : (word : List ℕ) (r : Option ℕ) (early late : List Named) → early ≡ early_types → late ≡ late_types → NothingIs (IsWordAmong late (codes "TYPE") word) → IfNone r (NothingIs (IsWordAmong early (codes "TYPE") word)) → IfNone r (NothingIs (IsRegistered word))
+found_in_neither word None early late e l none nothing =
+    in_neither word (λ n is. nothing n (subst (λ r. IsWordAmong r (codes "TYPE") word n) (sym e) is)) (λ n is. none n (subst (λ r. IsWordAmong r (codes "TYPE") word n) (sym l) is))
+found_in_neither word (Some n) early late e l none nothing = tt
 
 -- ---- no further type has a layout
 

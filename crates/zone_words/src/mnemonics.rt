@@ -6,8 +6,8 @@ ghost use Rattle.zone_rdata.specs.Table.{mnemonic_among};
 ghost use Rattle.zone_words.specs.Mnemonics.{IsTypeWord, certificate_types};
 ghost use Rattle.zone_words.specs.Table.{registered_types};
 
-use crate::table::TYPES;
-use zone_rdata::{Kind, Row, number_of_word, row_of};
+use crate::table::{TYPES, number_of_type};
+use zone_rdata::{Kind, Row, row_of};
 
 /// A number and its mnemonic.
 #[derive(Clone, Copy, Debug)]
@@ -45,7 +45,7 @@ pub(crate) fn type_of_word(word: &[u8]) -> Option<u16>
     ensures found { IfSome result (IsTypeWord word.now) }
     ensures none { IfNone result (NothingIs (IsTypeWord word.now)) }
 {
-    match number_of_word(TYPES, b"TYPE", word) {
+    match number_of_type(word) {
         Some(number) => number_of_kind(number),
         None => None,
     }

@@ -7,7 +7,7 @@ ghost use Rattle.zone_name.specs.Common.{NothingIs};
 ghost use Rattle.zone_rdata.specs.Number.{IsCapped};
 ghost use Rattle.zone_rdata.specs.Table.{ascends};
 ghost use Rattle.zone_rdata.specs.Words.{IsWordAmong};
-ghost use Rattle.zone_words.specs.Table.{IsFurtherWord, further_in, further_of, further_type, named, registered_of};
+ghost use Rattle.zone_words.specs.Table.{IsFurtherWord, further_in, further_of, further_type, named, registered_of, registered_types};
 
 use crate::field::BareKind::{
     Algorithm, CertificateType, Eui48, Eui64, Hash, Ipv4, Name, NodeId, RecordType, Salt, Tag,
@@ -93,13 +93,30 @@ fn further_among(rows: &'static [RegisteredType], number: u16) -> Option<&'stati
     }
 }
 
+/// How many types stand before DS and those after it, which most words of further types are of.
+const EARLY: usize = 41;
+
+/// The number of a registered type's word in any letter case: its mnemonic, or TYPE with a number,
+/// at most 2 ^ 32 (RFC 3597 5). `None`: it is no such word.
+pub(crate) fn number_of_type(word: &[u8]) -> Option<u64>
+    ensures found { IfSome result (IsCapped (IsWordAmong registered_types (codes "TYPE") word.now)) }
+    ensures none { IfNone result
+        (NothingIs (IsWordAmong registered_types (codes "TYPE") word.now)) }
+{
+    let (early, late) = TYPES.split_at(EARLY);
+    match number_of_word(late, b"TYPE", word) {
+        Some(number) => Some(number),
+        None => number_of_word(early, b"TYPE", word),
+    }
+}
+
 /// The further type of a word in any letter case: its mnemonic, or TYPE with its number (RFC 3597
 /// 5). `None`: it is the word of none.
 pub fn further_type_of(word: &[u8]) -> Option<&'static FurtherType>
     ensures found { IfSome result (λ row. IsFurtherWord word.now (further_of row.now)) }
     ensures none { IfNone result (NothingIs (IsFurtherWord word.now)) }
 {
-    match number_of_word(TYPES, b"TYPE", word) {
+    match number_of_type(word) {
         Some(number) => further_type_counted(number),
         None => None,
     }
