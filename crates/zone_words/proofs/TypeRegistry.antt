@@ -1,5 +1,5 @@
 -- The further types among the registered ones: the further type of a number is that of its row.
-use Rattle.zone_words.proofs.Common.{Bool, FurtherType, List, None, Option, RegisteredType, Some, [], and_parts, ap, arith, eqb-true, false, find, find_mapped, further_in, in_words, ltb-true, map, name_only, nat_lt, nat_tests, option_map, refl, registered_of, sym, true, ℕ, ◌<◌, ◌==◌, ◌∙◌, ◌∷◌, ◌≡◌, ◌≤◌}
+use Rattle.zone_words.proofs.Common.{Bool, drop, further_type, list_all, take, type_registry, ◌++◌, FurtherType, List, None, Option, RegisteredType, Some, [], and_parts, ap, arith, eqb-true, false, find, find_mapped, further_in, in_words, ltb-true, map, name_only, nat_lt, nat_tests, option_map, refl, registered_of, sym, true, ℕ, ◌<◌, ◌==◌, ◌∙◌, ◌∷◌, ◌≡◌, ◌≤◌}
 use Rattle.std.specs.Prelude.{filter_map, if◌then◌else◌, option_and_then}
 use Rattle.zone_rdata.specs.Table.{ascend, ascends}
 use Rattle.zone_words.specs.Table.{named}
@@ -66,3 +66,48 @@ further_found_there rows up n found is =
     ap (λ f. option_and_then further_in (option_map registered_of f)) is
     ∙ ap (option_and_then further_in) (sym (find_mapped registered_of (has_number n) rows))
     ∙ further_there_first n (map registered_of rows) up
+
+-- ---- the further types in two parts, by their numbers
+
+abbrev pub early_further : List FurtherType
+early_further = filter_map further_in (take 41 type_registry)
+
+abbrev pub late_further : List FurtherType
+late_further = filter_map further_in (drop 41 type_registry)
+
+abbrev numbered : ℕ → FurtherType → Bool
+numbered n f = n == f.number
+
+none_from : (n low : ℕ) → low ≤ n → (types : List FurtherType) → list_all (λ (f : FurtherType). nat_lt f.number low) types ≡ true → find (numbered n) types ≡ None
+none_from n low le [] all = refl
+none_from n low le (f ∷ types) all =
+    let both = and_parts (nat_lt f.number low) (list_all (λ (f : FurtherType). nat_lt f.number low) types) all in
+    let less : f.number < low = ltb-true f.number low both.0 in
+    let apart : (n == f.number) ≡ false = grind (arith, nat_tests) in
+    ap (λ is. if is then Some f else find (numbered n) types) apart ∙ none_from n low le types both.1
+
+none_up_to : (n low : ℕ) → n ≤ low → (types : List FurtherType) → list_all (λ (f : FurtherType). nat_lt low f.number) types ≡ true → find (numbered n) types ≡ None
+none_up_to n low le [] all = refl
+none_up_to n low le (f ∷ types) all =
+    let both = and_parts (nat_lt low f.number) (list_all (λ (f : FurtherType). nat_lt low f.number) types) all in
+    let more : low < f.number = ltb-true low f.number both.0 in
+    let less : n < f.number = omega arith in
+    ap (λ is. if is then Some f else find (numbered n) types) (is_apart n f.number less) ∙ none_up_to n low le types both.1
+
+in_back : (is : Bool) (f : FurtherType) (front all back : Option FurtherType) → (front ≡ None → all ≡ back) → (if is then Some f else front) ≡ None → (if is then Some f else all) ≡ back
+in_back true f front all back goes e = absurd cc
+in_back false f front all back goes e = goes e
+
+skipped : (n : ℕ) (front back : List FurtherType) → find (numbered n) front ≡ None → find (numbered n) (front ++ back) ≡ find (numbered n) back
+skipped n [] back e = refl
+skipped n (f ∷ front) back e = in_back (n == f.number) f (find (numbered n) front) (find (numbered n) (front ++ back)) (find (numbered n) back) (skipped n front back) e
+
+unmet : (n : ℕ) (front back : List FurtherType) → find (numbered n) back ≡ None → find (numbered n) (front ++ back) ≡ find (numbered n) front
+unmet n [] back e = e
+unmet n (f ∷ front) back e = ap (λ all. if n == f.number then Some f else all) (unmet n front back e)
+
+pub early_found : (n : ℕ) → n < 43 → find (numbered n) early_further ≡ further_type n
+early_found n few = sym (unmet n early_further late_further (none_up_to n 42 (omega arith) late_further refl))
+
+pub late_found : (n : ℕ) → 43 ≤ n → find (numbered n) late_further ≡ further_type n
+late_found n many = sym (skipped n early_further late_further (none_from n 43 many early_further refl))

@@ -74,11 +74,22 @@ impl RegisteredType {
     }
 }
 
+/// The number of DS. Most records in words are of this type and those after it.
+const DS: u16 = 43;
+
+/// How many registered types stand before it.
+const EARLY: usize = 41;
+
 /// The further type of a number. `None`: it is that of none.
 pub(crate) fn further_type_numbered(number: u16) -> Option<&'static FurtherType>
     ensures { option_map further_of (option_copied result) ≡ further_type number }
 {
-    further_among(TYPES, number)
+    let (early, late) = TYPES.split_at(EARLY);
+    if number < DS {
+        further_among(early, number)
+    } else {
+        further_among(late, number)
+    }
 }
 
 /// The further type of a number among rows. `None`: it is that of none.
@@ -92,9 +103,6 @@ fn further_among(rows: &'static [RegisteredType], number: u16) -> Option<&'stati
         None => None,
     }
 }
-
-/// How many types stand before DS and those after it, which most words of further types are of.
-const EARLY: usize = 41;
 
 /// The number of a registered type's word in any letter case: its mnemonic, or TYPE with a number,
 /// at most 2 ^ 32 (RFC 3597 5). `None`: it is no such word.
