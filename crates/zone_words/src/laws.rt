@@ -25,7 +25,7 @@ pub fn an_entry_has_an_outcome()
         → (outcome : Outcome) × BecomesUnder origin before line tokens outcome }
 {}
 
-/// Every text of octets has a rewriting under an origin that is a name, be it a file or broken.
+/// Every text of octets has a rewriting under an origin that is a name, one that breaks too.
 pub fn a_text_has_a_rewriting()
     ensures { (origin : Labels) (octets : List ℕ) → IsCasedName origin → AreOctets octets
         → (new : List ℕ) × (told : List Refused) × IsRewriting origin octets new told }
