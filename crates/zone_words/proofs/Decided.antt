@@ -11,3 +11,4 @@ pub mod Prefixes
 pub mod Values
 pub mod Parameters
 pub mod Fields
+pub mod Entries

@@ -4,10 +4,10 @@ use Rattle.std.proofs.Common.{Bor}
 use Rattle.zone_words.proofs.Registered.{IsRegistered, registered_further, registered_name}
 use Rattle.zone_words.specs.declared.table.FurtherType as code
 
-abbrev IsWord : List ℕ → ℕ → Type 0
+abbrev pub IsWord : List ℕ → ℕ → Type 0
 IsWord word n = IsWordAmong further_names (codes "TYPE") word n
 
-further_number_once : (word : List ℕ) (m n : ℕ) → IsWord word m → IsWord word n → m ≡ n
+pub further_number_once : (word : List ℕ) (m n : ℕ) → IsWord word m → IsWord word n → m ≡ n
 unfolding is_number own_numbers unlike
 further_number_once word = word_once further_names (codes "TYPE") refl refl word
 
@@ -26,7 +26,7 @@ abbrev is_short : FurtherType → Bool
 is_short f = nat_lt f.number 65536
 
 -- the type of a number has that number, of 16 bits
-numbered : (n : ℕ) (f : FurtherType) → further_type n ≡ Some f → (n ≡ f.number) × (n < 65536)
+pub numbered : (n : ℕ) (f : FurtherType) → further_type n ≡ Some f → (n ≡ f.number) × (n < 65536)
 numbered n f e =
     let own : n ≡ f.number = eqb-true n f.number (found_passes (λ (f : FurtherType). n == f.number) further_types f e) in
     let short : nat_lt f.number 65536 ≡ true = found_each is_short (λ (f : FurtherType). n == f.number) further_types f refl e in

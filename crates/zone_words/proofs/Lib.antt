@@ -7,6 +7,7 @@ pub mod Files
 pub mod FedTexts
 pub mod Standing
 pub mod OneRewriting
+pub mod HasRewriting
 pub mod OwnRewriting
 mod EntryShapes
 mod CutEntries

@@ -1,15 +1,35 @@
 //! Laws over the definitions alone: of rewritings, and of data in `data`.
 ghost use Rattle.std.specs.Prelude.{◌≡◌, ℕ, List, []};
-ghost use Rattle.zone_name.specs.Common.{Labels};
+ghost use Rattle.std.specs.List.{AllByRecursion};
+ghost use Rattle.zone_name.specs.Common.{AreOctets, Labels};
+ghost use Rattle.zone_name.specs.Name.{IsCasedName};
+ghost use Rattle.zone_text.specs.Entries.{Entry};
+ghost use Rattle.zone_text.specs.Outcome.{AreOctetItems};
+ghost use Rattle.zone_text.specs.Tokens.{Token, text};
 ghost use Rattle.zone_words.specs.CutAlike.{AreCutAlike, HaveAsManyLines, IsKeptOrAnew};
-ghost use Rattle.zone_words.specs.Entry.{IsRewriting};
+ghost use Rattle.zone_words.specs.Entry.{BecomesUnder, IsRewriting};
 ghost use Rattle.zone_words.specs.NoFurther.{HasNoFurtherWord};
-ghost use Rattle.zone_words.specs.Rewriting.{Refused};
+ghost use Rattle.zone_words.specs.Rewriting.{Outcome, Refused};
 
 pub mod data;
 pub mod joined;
 pub mod printed;
 pub mod words;
+
+/// Something becomes of every entry of octets after entries of octets, under an origin that is a
+/// name: it is written anew, refused or stays.
+pub fn an_entry_has_an_outcome()
+    ensures { (origin : Labels) (before : List Entry) (line : ℕ) (tokens : List Token)
+        → IsCasedName origin → AllByRecursion (λ (e : Entry). AreOctetItems e.items) before
+        → AreOctets (text tokens)
+        → (outcome : Outcome) × BecomesUnder origin before line tokens outcome }
+{}
+
+/// Every text of octets has a rewriting under an origin that is a name, one that breaks too.
+pub fn a_text_has_a_rewriting()
+    ensures { (origin : Labels) (octets : List ℕ) → IsCasedName origin → AreOctets octets
+        → (new : List ℕ) × (told : List Refused) × IsRewriting origin octets new told }
+{}
 
 /// A file has one rewriting, and one list of refusals is told of it.
 pub fn rewriting_is_unique()

@@ -112,7 +112,7 @@ parts_decided origin is [] items low = inl ([], tt)
 parts_decided origin is (f ∷ fields) items low = parts_by origin f fields items (field_decided origin is f.kind (own_items f.kind items) (own_low f.kind items low)) (parts_decided origin is fields (items_after f.kind items) (after_low f.kind items low))
 
 -- data, or the first thing that is wrong
-abbrev DataOrFault : Labels → List NamedField → (List (List ℕ) → List ℕ) → List TouchingItem → Type 0
+abbrev pub DataOrFault : Labels → List NamedField → (List (List ℕ) → List ℕ) → List TouchingItem → Type 0
 DataOrFault origin fields ordered items =
     ((octets : List ℕ) × StatesData origin fields ordered items octets)
     ⊎ ((name : List ℕ) × (fault : WordsFault) × DataFails origin fields ordered items name fault)
