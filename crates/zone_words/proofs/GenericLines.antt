@@ -5,7 +5,7 @@ use Rattle.zone_name.proofs.Texts.Bare.{plain_text}
 use Rattle.zone_rdata.specs.Generic.{generic_items}
 use Rattle.zone_rdata.specs.Item as raw
 use Rattle.zone_text.specs.FirstEntry.{IsOneEntry}
-use Rattle.zone_words.proofs.HeadLines.{items_spelt, line_cut, line_ended, tokens}
+use Rattle.zone_words.proofs.HeadLines.{items_spelt, line_cut, line_ended, of_head, tokens}
 use Rattle.zone_words.proofs.WrittenWords.{ArePlain, hex_some, mark_is, plain_decimal, plain_hex, some_decimal, type_is, word_token}
 use Rattle.zone_words.specs.DataItem.{items_of}
 use Rattle.zone_words.specs.Parameters.Printed.{written_touching}
@@ -57,11 +57,12 @@ form_text number (c ∷ octets) =
 pub generic_entry : (head : List ℕ) (class : ℕ) (further : FurtherType) (octets : List ℕ) (h : IsHead head class) → (found : List Token) × IsOneEntry (generic_line head further octets) found × (flat_map item_of found ≡ raw.bare h.owner ∷ raw.bare h.ttl ∷ raw.bare h.word ∷ raw.bare (type_text further.number) ∷ generic_items octets)
 generic_entry head class further octets h =
     let stands = form_stands octets in
-    let is = type_is further.number in (
-      tokens head class (type_text further.number) (form octets) h is stands,
+    let is = type_is further.number in
+    let front = of_head head class h in (
+      tokens head front (type_text further.number) (form octets) is stands,
       record {
-        cut = subst (λ t. Cuts t (tokens head class (type_text further.number) (form octets) h is stands)) (ap (λ t. head ++ t) (form_text further.number octets)) (line_cut head class (type_text further.number) (form octets) h is stands);
-        ended = line_ended head class (type_text further.number) (form octets) h is stands;
+        cut = subst (λ t. Cuts t (tokens head front (type_text further.number) (form octets) is stands)) (ap (λ t. head ++ t) (form_text further.number octets)) (line_cut head front (type_text further.number) (form octets) is stands);
+        ended = line_ended head front (type_text further.number) (form octets) is stands;
       },
-      items_spelt head class (type_text further.number) (form octets) h is stands ∙ ap (λ t. raw.bare h.owner ∷ raw.bare h.ttl ∷ raw.bare h.word ∷ raw.bare (type_text further.number) ∷ t) (form_items octets),
+      items_spelt head class h (type_text further.number) (form octets) is stands ∙ ap (λ t. raw.bare h.owner ∷ raw.bare h.ttl ∷ raw.bare h.word ∷ raw.bare (type_text further.number) ∷ t) (form_items octets),
     )

@@ -28,7 +28,7 @@ use Rattle.zone_words.specs.Entry.{in_words}
 use Rattle.zone_words.specs.Rewriting.{EachBecomes, whole}
 use Rattle.zone_words.specs.Table.{fields_in}
 use Rattle.zone_words.specs.Parameters.Printed.{written_touching}
-use Rattle.zone_words.specs.WordsLine.{IsBareText, IsHead, IsQuoted, Stands, StandsBehind, generic_line}
+use Rattle.zone_words.specs.WordsLine.{IsBareText, IsHead, IsOwnerlessHead, IsQuoted, Stands, StandsBehind, generic_line}
 use Rattle.zone_words.specs.Written.{Anew, digit_tokens, in_octets}
 
 -- ---- the tokens of items
@@ -149,8 +149,11 @@ item_cut closing tokens is one = absurd is
 item_cut line_feed tokens is one = absurd is
 item_cut (comment octets) tokens is one = absurd is
 
-blank_cut : (tokens : List Token) → IsOneOf tokens → IsOneOf (blank 32 ∷ tokens)
+pub blank_cut : (tokens : List Token) → IsOneOf tokens → IsOneOf (blank 32 ∷ tokens)
 blank_cut tokens one = ap (in_front_of (blank 32)) one
+
+pub word_cut : (units : List Written) (tokens : List Token) → IsOneOf tokens → IsOneOf (bare units ∷ blank 32 ∷ tokens)
+word_cut units tokens one = item_cut (bare units) (blank 32 ∷ tokens) tt (blank_cut tokens one)
 
 gap_cut : (touches : Bool) (tokens : List Token) → IsOneOf tokens → IsOneOf (gap touches tokens)
 gap_cut true tokens one = one
@@ -212,51 +215,67 @@ pub one_line : (items : List TouchingItem) → AllByRecursion StandsBehind items
 one_line [] s = tt
 one_line (i ∷ items) s = (item_feeds i.item s.0.stands, one_line items s.1)
 
+-- ---- what stands before the type
+
+-- Its tokens: before tokens that are one entry, which begin with a bare item, they leave them one.
+pub record IsFront (head : List ℕ) : Type 0 where
+  pub before : List Token
+  pub spelt : text before ≡ head
+  pub each : (more : List Token) → AllByRecursion IsToken more → AllByRecursion IsToken (before ++ more)
+  pub follow : (units : List Written) (more : List Token) → AllFollow (bare units ∷ more) → AllFollow (before ++ bare units ∷ more)
+  pub depth : (more : List Token) → depth_after zero (before ++ more) ≡ depth_after zero more
+  pub one : (more : List Token) → IsOneOf more → IsOneOf (before ++ more)
+
+abbrev pub of_head : (head : List ℕ) (class_number : ℕ) → IsHead head class_number → IsFront head
+of_head head class_number h = record {
+  before = bare h.owner_stands.units ∷ blank 32 ∷ bare h.ttl_stands.units ∷ blank 32 ∷ bare h.word_stands.units ∷ blank 32 ∷ [];
+  spelt = (λ j. sym h.owner_stands.spelt j ++ 32 ∷ (sym h.ttl_stands.spelt j ++ 32 ∷ (sym h.word_stands.spelt j ++ 32 ∷ []))) ∙ sym h.whole;
+  each = λ more each. (h.owner_stands.is, (refl, (h.ttl_stands.is, (refl, (h.word_stands.is, (refl, each))))));
+  follow = λ units more follow. (tt, (tt, (tt, (tt, (tt, (tt, follow))))));
+  depth = λ more. refl;
+  one = λ more one. word_cut h.owner_stands.units _ (word_cut h.ttl_stands.units _ (word_cut h.word_stands.units more one));
+}
+
+abbrev pub of_ownerless : (head : List ℕ) (class_number : ℕ) → IsOwnerlessHead head class_number → IsFront head
+of_ownerless head class_number h = record {
+  before = blank 32 ∷ bare h.word_stands.units ∷ blank 32 ∷ [];
+  spelt = (λ j. 32 ∷ (sym h.word_stands.spelt j ++ 32 ∷ [])) ∙ sym h.whole;
+  each = λ more each. (refl, (h.word_stands.is, (refl, each)));
+  follow = λ units more follow. (tt, (tt, (tt, follow)));
+  depth = λ more. refl;
+  one = λ more one. blank_cut _ (word_cut h.word_stands.units more one);
+}
+
 -- ---- a line of a head, a type's word and items
 
-module _ (head : List ℕ) (class_number : ℕ) (type_text : List ℕ) (items : List TouchingItem) (h : IsHead head class_number) (type_is : IsToken (word type_text)) (s : AllByRecursion StandsBehind items) where
-  abbrev pub owner_units : List Written
-  owner_units = h.owner_stands.units
-
-  abbrev pub ttl_units : List Written
-  ttl_units = h.ttl_stands.units
-
-  abbrev pub class_units : List Written
-  class_units = h.word_stands.units
-
-  -- the tokens before the type
-  abbrev pub front : List Token
-  front = bare owner_units ∷ blank 32 ∷ bare ttl_units ∷ blank 32 ∷ bare class_units ∷ blank 32 ∷ []
-
+module _ (head : List ℕ) (front : IsFront head) (type_text : List ℕ) (items : List TouchingItem) (type_is : IsToken (word type_text)) (s : AllByRecursion StandsBehind items) where
   abbrev pub type_units : List Written
   type_units = map plain type_text
 
   abbrev pub tokens : List Token
-  tokens = front ++ bare type_units ∷ tail items s
-
-  pub front_text : text front ≡ head
-  front_text = (λ j. sym h.owner_stands.spelt j ++ 32 ∷ (sym h.ttl_stands.spelt j ++ 32 ∷ (sym h.word_stands.spelt j ++ 32 ∷ []))) ∙ sym h.whole
+  tokens = front.before ++ bare type_units ∷ tail items s
 
   line_text : head ++ (type_text ++ (written_touching items ++ 10 ∷ [])) ≡ text tokens
   line_text =
-      sym (flat_map-append token_text front (bare type_units ∷ tail items s)
-      ∙ (λ j. front_text j ++ (sym (plain_text type_text) j ++ tail_text items s j)))
+      sym (flat_map-append token_text front.before (bare type_units ∷ tail items s)
+      ∙ (λ j. front.spelt j ++ (sym (plain_text type_text) j ++ tail_text items s j)))
 
   pub line_cut : Cuts (head ++ (type_text ++ (written_touching items ++ 10 ∷ []))) tokens
   line_cut = record {
     whole = line_text;
-    each = (h.owner_stands.is, (refl, (h.ttl_stands.is, (refl, (h.word_stands.is, (refl, (type_is, tail_each items s)))))));
-    follow = (tt, (tt, (tt, (tt, (tt, (tt, tail_follow (bare type_units) items s tt))))));
-    balanced = tail_depth items s;
+    each = front.each (bare type_units ∷ tail items s) (type_is, tail_each items s);
+    follow = front.follow type_units (tail items s) (tail_follow (bare type_units) items s tt);
+    balanced = front.depth (bare type_units ∷ tail items s) ∙ tail_depth items s;
   }
 
   pub line_ended : IsOneOf tokens
-  line_ended =
-      item_cut (bare owner_units) _ tt (blank_cut _ (item_cut (bare ttl_units) _ tt (blank_cut _ (item_cut (bare class_units) _ tt (blank_cut _ (item_cut (bare type_units) (tail items s) tt (tail_cut items s)))))))
+  line_ended = front.one (bare type_units ∷ tail items s) (item_cut (bare type_units) (tail items s) tt (tail_cut items s))
 
-  -- its items, as they are spelt by their tokens
-  pub line_items : flat_map item_of tokens ≡ raw.bare (written_text owner_units) ∷ raw.bare (written_text ttl_units) ∷ raw.bare (written_text class_units) ∷ raw.bare (written_text type_units) ∷ items_of items
-  line_items = ap (λ t. raw.bare (written_text owner_units) ∷ raw.bare (written_text ttl_units) ∷ raw.bare (written_text class_units) ∷ raw.bare (written_text type_units) ∷ t) (tail_items items s)
+  -- the items from the type on, as they are spelt by their tokens
+  pub rest_items : flat_map item_of (bare type_units ∷ tail items s) ≡ raw.bare (written_text type_units) ∷ items_of items
+  rest_items = ap (λ t. raw.bare (written_text type_units) ∷ t) (tail_items items s)
 
-  pub items_spelt : flat_map item_of tokens ≡ raw.bare h.owner ∷ raw.bare h.ttl ∷ raw.bare h.word ∷ raw.bare type_text ∷ items_of items
-  items_spelt = line_items ∙ (λ j. raw.bare (sym h.owner_stands.spelt j) ∷ raw.bare (sym h.ttl_stands.spelt j) ∷ raw.bare (sym h.word_stands.spelt j) ∷ raw.bare (sym (plain_text type_text) j) ∷ items_of items)
+pub items_spelt : (head : List ℕ) (class_number : ℕ) (h : IsHead head class_number) (type_text : List ℕ) (items : List TouchingItem) (type_is : IsToken (word type_text)) (s : AllByRecursion StandsBehind items) → flat_map item_of (tokens head (of_head head class_number h) type_text items type_is s) ≡ raw.bare h.owner ∷ raw.bare h.ttl ∷ raw.bare h.word ∷ raw.bare type_text ∷ items_of items
+items_spelt head class_number h type_text items type_is s =
+    ap (λ t. raw.bare (written_text h.owner_stands.units) ∷ raw.bare (written_text h.ttl_stands.units) ∷ raw.bare (written_text h.word_stands.units) ∷ t) (rest_items head (of_head head class_number h) type_text items type_is s)
+    ∙ (λ j. raw.bare (sym h.owner_stands.spelt j) ∷ raw.bare (sym h.ttl_stands.spelt j) ∷ raw.bare (sym h.word_stands.spelt j) ∷ raw.bare (sym (plain_text type_text) j) ∷ items_of items)

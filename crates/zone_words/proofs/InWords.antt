@@ -26,9 +26,9 @@ use Rattle.zone_words.specs.DataItem.{items_of}
 use Rattle.zone_words.specs.Entry.{in_words}
 use Rattle.zone_words.specs.Rewriting.{EachBecomes, whole}
 use Rattle.zone_words.specs.Table.{fields_in}
-use Rattle.zone_words.specs.WordsLine.{AreWords, IsBareText, IsHead, IsQuoted, Stands, StandsBehind, generic_line, words_line}
+use Rattle.zone_words.specs.WordsLine.{AreWords, IsBareText, IsHead, IsOwnerlessHead, IsQuoted, Stands, StandsBehind, generic_line, words_line}
 use Rattle.zone_words.specs.Written.{Anew, digit_tokens, in_octets}
-use Rattle.zone_words.proofs.HeadLines.{IsOneOf, front, front_text, line_cut, line_ended, line_items, one_line, tail, tail_stays, tail_touching, tokens}
+use Rattle.zone_words.proofs.HeadLines.{IsFront, IsOneOf, line_cut, line_ended, of_head, of_ownerless, one_line, rest_items, tail, tail_stays, tail_touching, tokens}
 
 -- ---- the mnemonic of a further type
 
@@ -109,7 +109,78 @@ record_parts ttl_text class_text type_text items is_ttl no_ttl is_class none =
     ∙ next_part (ttl ttl_text ∷ []) (raw.bare class_text) (raw.bare type_text ∷ items) (Some (class class_text)) (rw (no_ttl, is_class) refl)
     ∙ next_part (ttl ttl_text ∷ class class_text ∷ []) (raw.bare type_text) items None (none (ttl ttl_text ∷ class class_text ∷ []))
 
-module _ (head : List ℕ) (class_number : ℕ) (further : FurtherType) (items : List TouchingItem) (octets : List ℕ) (h : IsHead head class_number) (row : further_type further.number ≡ Some further) (printed : AreWords further.fields items octets) where
+unowned_parts : (class_text type_text : List ℕ) (items : List RawItem) → begins_with_digit class_text ≡ false → is_class_word class_text ≡ true → ((words : List Word) → word_after words (raw.bare type_text) ≡ None) → parts_after [] (raw.bare class_text ∷ raw.bare type_text ∷ items) ≡ record { words = class class_text ∷ []; rest = raw.bare type_text ∷ items }
+unowned_parts class_text type_text items no_ttl is_class none =
+    next_part [] (raw.bare class_text) (raw.bare type_text ∷ items) (Some (class class_text)) (rw (no_ttl, is_class) refl)
+    ∙ next_part (class class_text ∷ []) (raw.bare type_text) items None (none (class class_text ∷ []))
+
+-- Before a word that is no part of them, the tokens are the words of a record that states its class.
+pub record SaysClass (before : List Token) (class_number : ℕ) : Type 0 where
+  pub words : List Word
+  pub split : (type_text : List ℕ) (items : List RawItem) (rest : List Token)
+      → ((words : List Word) → word_after words (raw.bare type_text) ≡ None)
+      → flat_map item_of rest ≡ raw.bare type_text ∷ items
+      → parts_in (statement_of (entry_of 1 (before ++ rest))) ≡ Some (record { words = words; rest = raw.bare type_text ∷ items })
+  pub values : AllByRecursion HasValue words
+  pub text : List ℕ
+  pub among : class_among words ≡ Some text
+  pub is_word : IsClassWord text class_number
+  pub few : length (flat_map item_of before) < 4
+
+module _ (head : List ℕ) (class_number : ℕ) (h : IsHead head class_number) where
+  abbrev owner_text : List ℕ
+  owner_text = written_text h.owner_stands.units
+
+  abbrev ttl_text : List ℕ
+  ttl_text = written_text h.ttl_stands.units
+
+  abbrev head_class : List ℕ
+  head_class = written_text h.word_stands.units
+
+  abbrev head_before : List Token
+  head_before = (of_head head class_number h).before
+
+  head_split : (type_text : List ℕ) (items : List RawItem) (rest : List Token) → ((words : List Word) → word_after words (raw.bare type_text) ≡ None) → flat_map item_of rest ≡ raw.bare type_text ∷ items → parts_in (statement_of (entry_of 1 (head_before ++ rest))) ≡ Some (record { words = ttl ttl_text ∷ class head_class ∷ []; rest = raw.bare type_text ∷ items })
+  head_split type_text items rest none is =
+      ap parts_in (ap (λ t. statement_by (slice_get (text (head_before ++ rest)) 0) (raw.bare owner_text ∷ raw.bare ttl_text ∷ raw.bare head_class ∷ t)) is
+      ∙ owned_by h.owner_stands.units _ (raw.bare owner_text) (raw.bare ttl_text ∷ raw.bare head_class ∷ raw.bare type_text ∷ items) h.owner_stands.is (subst (λ t. IfSome (slice_get t 0) (λ c. c ≢ 36)) h.owner_stands.spelt h.no_directive))
+      ∙ ap Some (record_parts ttl_text head_class type_text items
+      (subst (λ t. begins_with_digit t ≡ true) h.ttl_stands.spelt (time_first h.ttl h.seconds h.is_ttl.time))
+      (subst (λ t. begins_with_digit t ≡ false) h.word_stands.spelt (class_word_first h.word class_number h.is_word))
+      (subst (λ t. is_class_word t ≡ true) h.word_stands.spelt (class_word_known h.word class_number h.is_word)) none)
+
+  pub head_says : SaysClass head_before class_number
+  head_says = record {
+    words = ttl ttl_text ∷ class head_class ∷ [];
+    split = head_split;
+    values = (subst (λ t. HasValue (ttl t)) h.ttl_stands.spelt (h.seconds, h.is_ttl), (subst (λ t. HasValue (class t)) h.word_stands.spelt (class_number, (h.is_word, h.is_class)), tt));
+    text = head_class;
+    among = refl;
+    is_word = subst (λ t. IsClassWord t class_number) h.word_stands.spelt h.is_word;
+    few = omega arith;
+  }
+
+module _ (head : List ℕ) (class_number : ℕ) (h : IsOwnerlessHead head class_number) where
+  abbrev ownerless_class : List ℕ
+  ownerless_class = written_text h.word_stands.units
+
+  pub ownerless_says : SaysClass (of_ownerless head class_number h).before class_number
+  ownerless_says = record {
+    words = class ownerless_class ∷ [];
+    split = λ type_text items rest none is. ap (λ t. Some (parts_after [] (raw.bare ownerless_class ∷ t))) is
+        ∙ ap Some (unowned_parts ownerless_class type_text items
+        (subst (λ t. begins_with_digit t ≡ false) h.word_stands.spelt (class_word_first h.word class_number h.is_word))
+        (subst (λ t. is_class_word t ≡ true) h.word_stands.spelt (class_word_known h.word class_number h.is_word)) none);
+    values = (subst (λ t. HasValue (class t)) h.word_stands.spelt (class_number, (h.is_word, h.is_class)), tt);
+    text = ownerless_class;
+    among = refl;
+    is_word = subst (λ t. IsClassWord t class_number) h.word_stands.spelt h.is_word;
+    few = omega arith;
+  }
+
+-- ---- the line
+
+module _ (head : List ℕ) (class_number : ℕ) (front : IsFront head) (known : SaysClass front.before class_number) (further : FurtherType) (items : List TouchingItem) (octets : List ℕ) (row : further_type further.number ≡ Some further) (printed : AreWords further.fields items octets) where
   abbrev s : AllByRecursion StandsBehind items
   s = printed.stand
 
@@ -120,76 +191,53 @@ module _ (head : List ℕ) (class_number : ℕ) (further : FurtherType) (items :
   back = tail items s
 
   abbrev all_tokens : List Token
-  all_tokens = tokens head class_number further.mnemonic items h type_is s
-
-  abbrev before : List Token
-  before = front head class_number further.mnemonic items h type_is s
-
-  abbrev owner_text : List ℕ
-  owner_text = written_text h.owner_stands.units
-
-  abbrev ttl_text : List ℕ
-  ttl_text = written_text h.ttl_stands.units
-
-  abbrev class_text : List ℕ
-  class_text = written_text h.word_stands.units
+  all_tokens = tokens head front further.mnemonic items type_is s
 
   abbrev type_text : List ℕ
   type_text = written_text (map plain further.mnemonic)
 
   -- ---- what it states
 
-  abbrev rest_items : List RawItem
-  rest_items = raw.bare ttl_text ∷ raw.bare class_text ∷ raw.bare type_text ∷ items_of items
-
-  entry_items : (entry_of 1 all_tokens).items ≡ raw.bare owner_text ∷ rest_items
-  entry_items = line_items head class_number further.mnemonic items h type_is s
-
-  is_owned : statement_of (entry_of 1 all_tokens) ≡ owned (raw.bare owner_text) rest_items
-  is_owned =
-      ap (statement_by (slice_get (text all_tokens) 0)) entry_items
-      ∙ owned_by h.owner_stands.units _ (raw.bare owner_text) rest_items h.owner_stands.is (subst (λ t. IfSome (slice_get t 0) (λ c. c ≢ 36)) h.owner_stands.spelt h.no_directive)
-
   abbrev parts : Parts
-  parts = record { words = ttl ttl_text ∷ class class_text ∷ []; rest = raw.bare type_text ∷ items_of items }
+  parts = record { words = known.words; rest = raw.bare type_text ∷ items_of items }
 
-  none_at_type : (before : List Word) → word_after before (raw.bare type_text) ≡ None
-  none_at_type before = subst (λ t. word_after before (raw.bare t) ≡ None) (plain_text further.mnemonic) (no_word further row before)
+  none_at_type : (words : List Word) → word_after words (raw.bare type_text) ≡ None
+  none_at_type words = subst (λ t. word_after words (raw.bare t) ≡ None) (plain_text further.mnemonic) (no_word further row words)
 
   split : parts_in (statement_of (entry_of 1 all_tokens)) ≡ Some parts
-  split =
-      ap parts_in is_owned
-      ∙ ap Some (record_parts ttl_text class_text type_text (items_of items)
-      (subst (λ t. begins_with_digit t ≡ true) h.ttl_stands.spelt (time_first h.ttl h.seconds h.is_ttl.time))
-      (subst (λ t. begins_with_digit t ≡ false) h.word_stands.spelt (class_word_first h.word class_number h.is_word))
-      (subst (λ t. is_class_word t ≡ true) h.word_stands.spelt (class_word_known h.word class_number h.is_word)) none_at_type)
+  split = known.split type_text (items_of items) (bare (map plain further.mnemonic) ∷ back) none_at_type (rest_items head front further.mnemonic items type_is s)
+
+  class_is : class_word (statement_of (entry_of 1 all_tokens)) ≡ Some known.text
+  class_is = ap (option_and_then (λ (p : Parts). class_among p.words)) split ∙ known.among
 
   pub one_entry : (found : List Token) × IsOneEntry (words_line head further items) found × IsSome (class_word (statement_of (entry_of 1 found)))
-  one_entry = (all_tokens, record { cut = line_cut head class_number further.mnemonic items h type_is s; ended = line_ended head class_number further.mnemonic items h type_is s }, subst (λ o. IsSome (option_and_then (λ (p : Parts). class_among p.words) o)) (sym split) refl)
+  one_entry = (all_tokens, record { cut = line_cut head front further.mnemonic items type_is s; ended = line_ended head front further.mnemonic items type_is s }, subst IsSome (sym class_is) refl)
 
   module _ (origin : Labels) (alone : further.in_internet_alone ≡ true → class_number ≡ in_class) where
     in_its_class : further.in_internet_alone ≡ true → HasClass [] (entry_of 1 all_tokens) in_class
     in_its_class is =
-        subst (λ o. MatchOption (option_or (option_and_then (λ (p : Parts). class_among p.words) o) None) (in_class ≡ 1) (λ t. IsClassWord t in_class)) (sym split)
-        (subst (λ t. IsClassWord t in_class) h.word_stands.spelt (subst (IsClassWord h.word) (alone is) h.is_word))
+        subst (λ o. MatchOption (option_or o None) (in_class ≡ 1) (λ t. IsClassWord t in_class)) (sym class_is) (subst (IsClassWord known.text) (alone is) known.is_word)
 
     stated : IsFurtherRecord [] (entry_of 1 all_tokens) type_text (items_of items) further
     stated = record {
       parts = parts;
       split = split;
-      values = (subst (λ t. HasValue (ttl t)) h.ttl_stands.spelt (h.seconds, h.is_ttl), (subst (λ t. HasValue (class t)) h.word_stands.spelt (class_number, (h.is_word, h.is_class)), tt));
+      values = known.values;
       from_type = refl;
       named = subst (λ t. IsFurtherWord t further) (plain_text further.mnemonic) (mnemonic_named further row);
       class = in_its_class;
     }
 
     few_items : length (entry_of 1 all_tokens).items < most_items
-    few_items = let e = ap length entry_items in let l = length-map items (λ (d : TouchingItem). d.item) in omega (arith, e, l, printed.few)
+    few_items =
+        let e = ap length (flat_map-append item_of front.before (bare (map plain further.mnemonic) ∷ back) ∙ ap (λ t. flat_map item_of front.before ++ t) (rest_items head front further.mnemonic items type_is s)) in
+        let a = length-append (flat_map item_of front.before) (raw.bare type_text ∷ items_of items) in
+        let l = length-map items (λ (d : TouchingItem). d.item) in omega (arith, e, a, l, known.few, printed.few)
 
     says : SaysAnew origin [] (entry_of 1 all_tokens) type_text items (in_octets further.number octets)
     says = in_words further origin octets (record { stated = stated; under = refl }) few_items (one_line items s) printed.in_words (printed.states origin)
 
-    say : TokensSay origin [] 1 all_tokens before back (in_octets further.number octets)
+    say : TokensSay origin [] 1 all_tokens front.before back (in_octets further.number octets)
     say = record {
       word = map plain further.mnemonic;
       split = refl;
@@ -199,16 +247,16 @@ module _ (head : List ℕ) (class_number : ℕ) (further : FurtherType) (items :
     -- ---- what is written for it
 
     abbrev new : List Token
-    new = before ++ written (in_octets further.number octets) back
+    new = front.before ++ written (in_octets further.number octets) back
 
     new_text : generic_line head further octets ≡ text new
     new_text =
-        sym (flat_map-append token_text before (generic_tokens further.number octets ++ filter stays back)
-        ∙ (λ j. front_text head class_number further.mnemonic items h type_is s j ++ (flat_map-append token_text (generic_tokens further.number octets) (filter stays back) ∙ ap (λ t. text (generic_tokens further.number octets) ++ text t) (tail_stays items s)) j))
+        sym (flat_map-append token_text front.before (generic_tokens further.number octets ++ filter stays back)
+        ∙ (λ j. front.spelt j ++ (flat_map-append token_text (generic_tokens further.number octets) (filter stays back) ∙ ap (λ t. text (generic_tokens further.number octets) ++ text t) (tail_stays items s)) j))
 
     pub words_rewritten : IsRewriting origin (words_line head further items) (generic_line head further octets) []
     words_rewritten =
-        whole all_tokens (record { written = new; told = [] } ∷ []) (line_cut head class_number further.mnemonic items h type_is s)
-        (subst (λ (c : Cut). EachBecomes (BecomesUnder origin) [] 1 (and_last c.ended c.open_tokens) (record { written = new; told = [] } ∷ [])) (sym (line_ended head class_number further.mnemonic items h type_is s))
-        (anew before back (in_octets further.number octets) say refl, tt))
+        whole all_tokens (record { written = new; told = [] } ∷ []) (line_cut head front further.mnemonic items type_is s)
+        (subst (λ (c : Cut). EachBecomes (BecomesUnder origin) [] 1 (and_last c.ended c.open_tokens) (record { written = new; told = [] } ∷ [])) (sym (line_ended head front further.mnemonic items type_is s))
+        (anew front.before back (in_octets further.number octets) say refl, tt))
         (new_text ∙ sym (append-nil (text new))) refl

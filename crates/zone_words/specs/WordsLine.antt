@@ -61,6 +61,15 @@ pub record IsHead (head : List ℕ) (class : ℕ) : Type 0 where
   pub is_word : IsClassWord word class
   pub is_class : IsClass class
 
+-- what stands before the type of a record that states no owner and no TTL: a blank, and the class
+-- before a blank
+pub record IsOwnerlessHead (head : List ℕ) (class : ℕ) : Type 0 where
+  pub word : List ℕ
+  pub whole : head ≡ 32 ∷ (word ++ 32 ∷ [])
+  pub word_stands : IsBareText word
+  pub is_word : IsClassWord word class
+  pub is_class : IsClass class
+
 -- the line of a record with its data in words
 abbrev pub words_line : List ℕ → FurtherType → List TouchingItem → List ℕ
 words_line head further items = head ++ (further.mnemonic ++ (written_touching items ++ 10 ∷ []))

@@ -14,7 +14,7 @@ ghost use Rattle.zone_words.specs.DataItem.{TouchingItem};
 ghost use Rattle.zone_words.specs.Entry.{IsRewriting};
 ghost use Rattle.zone_words.specs.PrintedData.{AreOfAType, PrintsData};
 ghost use Rattle.zone_words.specs.Table.{Fields, FurtherType, further_type};
-ghost use Rattle.zone_words.specs.WordsLine.{AreWords, IsHead, generic_line, words_line};
+ghost use Rattle.zone_words.specs.WordsLine.{AreWords, IsHead, IsOwnerlessHead, generic_line, words_line};
 
 /// The line of a record with the words of its data is one entry, which states its
 /// class, and it is rewritten, under every origin, as the line with that data in the generic form.
@@ -26,6 +26,22 @@ pub fn a_line_in_words_is_rewritten()
         × IsSome (class_word (statement_of (entry_of 1 tokens))) }
     ensures rewritten { (origin : Labels) (head : List ℕ) (class : ℕ) (further : FurtherType)
         (items : List TouchingItem) (octets : List ℕ) → IsHead head class
+        → further_type further.number ≡ Some further
+        → (further.in_internet_alone ≡ true → class ≡ in_class)
+        → AreWords further.fields items octets
+        → IsRewriting origin (words_line head further items) (generic_line head further octets)
+        [] }
+{}
+
+/// So it is with the line of a record that states no owner and no TTL, which begins with a blank.
+pub fn a_record_without_an_owner_is_rewritten()
+    ensures entry { (head : List ℕ) (class : ℕ) (further : FurtherType)
+        (items : List TouchingItem) (octets : List ℕ) → IsOwnerlessHead head class
+        → further_type further.number ≡ Some further → AreWords further.fields items octets
+        → (tokens : List Token) × IsOneEntry (words_line head further items) tokens
+        × IsSome (class_word (statement_of (entry_of 1 tokens))) }
+    ensures rewritten { (origin : Labels) (head : List ℕ) (class : ℕ) (further : FurtherType)
+        (items : List TouchingItem) (octets : List ℕ) → IsOwnerlessHead head class
         → further_type further.number ≡ Some further
         → (further.in_internet_alone ≡ true → class ≡ in_class)
         → AreWords further.fields items octets

@@ -1,8 +1,9 @@
-use Rattle.zone_words.proofs.InWords.{one_entry, words_rewritten}
+use Rattle.zone_words.proofs.HeadLines.{of_head}
+use Rattle.zone_words.proofs.InWords.{head_says, one_entry, words_rewritten}
 use Rattle.zone_words.proofs.laws.words.a_line_in_words_is_rewritten.Goals as goal
 
 pub returns-clause-entry : goal.returns-clause-entry
-returns-clause-entry c = one_entry
+returns-clause-entry c = λ head class further items octets h row printed. one_entry head class (of_head head class h) (head_says head class h) further items octets row printed
 
 pub returns-clause-rewritten : goal.returns-clause-rewritten
-returns-clause-rewritten c = λ origin head class further items octets h row alone printed. words_rewritten head class further items octets h row printed origin alone
+returns-clause-rewritten c = λ origin head class further items octets h row alone printed. words_rewritten head class (of_head head class h) (head_says head class h) further items octets row printed origin alone
