@@ -45,8 +45,4 @@ module _ {X : Type 0} where
   pub each_chunk : (P : X → Type 0) (cs : List (List X)) → All P (joined cs) → All (λ c. All P c) cs
   each_chunk P cs all = λ i e lt k d within. grind (arith, all (length (joined (take i cs)) + k) d, joined_about cs i, get_or-append-add, get_or_append_left, get_or_default, length-append)
 
-  -- what holds of each element holds of the last
-  pub at_last : (P : X → Type 0) (front : List X) (x : X) (xs : List X) → xs ≡ front ++ x ∷ [] → All P xs → P x
-  at_last P front x xs is all = grind (arith, common_steps)
-
 pub ruleset last_neighbours = (last_in, last_of_chunk, lent, filled_within)

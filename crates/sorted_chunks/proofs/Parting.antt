@@ -11,10 +11,6 @@ module _ {X : Type 0} (p : X → Bool) where
   passes_before : (a z : List X) (x : X) → IsPartitionedBy p (a ++ x ∷ z) → p x ≡ true → All (λ y. p y ≡ true) a
   passes_before a z x parts passes = λ k d lt. grind (arith, parts k (length a) d, length-append, get_or_at, get_or_append_left)
 
-  -- where the last element passes, all do
-  pub all_pass : (xs a : List X) (x : X) → xs ≡ a ++ x ∷ [] → p x ≡ true → IsPartitionedBy p xs → All (λ y. p y ≡ true) xs
-  all_pass xs a x is passes parts = λ k d lt. grind (arith, parts k (length a) d, length-append, get_or_at)
-
   -- how far a binary search has come: what passes is before `low`, and what fails from `high` on
   pub record IsNarrowed (xs : List X) (low high : ℕ) : Type 0 where
     pub parts : IsPartitionedBy p xs → AllWithin (λ y. p y ≡ true) xs 0 low × AllWithin (λ y. p y ≡ false) xs high (length xs)

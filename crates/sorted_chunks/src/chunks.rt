@@ -86,46 +86,10 @@ impl<T: Copy, const LIMIT: usize> SortedChunks<T, LIMIT> {
         len
     }
 
-    /// The place of what is sought, where the elements that it comes after stand first.
-    #[tactic(auto, using(crate::proofs::Neighbours::at_last))]
-    pub fn place_of<S: Sought<T>>(&self, sought: &S) -> Position
-        requires { All (S.knows sought.now) (joined self.now) }
-        ensures place { IsPlace self.now result }
-        ensures whole { before self.now result ++ after self.now result ≡ joined self.now }
-        ensures parts { IsParting (S.follows sought.now) (joined self.now)
-            (before self.now result) (after self.now result) }
-    {
-        // Elements that come in order are placed without a search.
-        if let Some(last) = self.last() {
-            if sought.is_after(last) {
-                return self.end();
-            }
-        }
-        self.search(sought)
-    }
-
-    /// The place after all elements, in the last chunk.
-    fn end(&self) -> Position
-        ensures place { IsPlace self.now result }
-        ensures before { before self.now result ≡ joined self.now }
-        ensures after { after self.now result ≡ [] }
-    {
-        let chunks = self.chunks.len();
-        if chunks == 0 {
-            return Position {
-                chunk: 0,
-                offset: 0,
-            };
-        }
-        Position {
-            chunk: chunks - 1,
-            offset: self.chunks[chunks - 1].len(),
-        }
-    }
-
-    /// `place_of` by a binary search over the chunks' first elements, and then in a chunk.
+    /// The place of what is sought, where the elements that it comes after stand first. It is looked
+    /// for among the chunks' first elements, and then in a chunk.
     #[tactic(auto, using(crate::proofs::Neighbours::whole_at))]
-    fn search<S: Sought<T>>(&self, sought: &S) -> Position
+    pub fn place_of<S: Sought<T>>(&self, sought: &S) -> Position
         requires { All (S.knows sought.now) (joined self.now) }
         ensures place { IsPlace self.now result }
         ensures whole { before self.now result ++ after self.now result ≡ joined self.now }

@@ -20,7 +20,7 @@ pub use Rattle.zone_name.specs.Machine.LabelWalk.{Ahead, Collects, Step, ahead_i
 pub use Rattle.zone_name.specs.Machine.Plain.{TellsMarks, TurnsEvens, TurnsFront, WritesLengths, after_dots, is_mark, is_plain}
 pub use Rattle.zone_name.specs.Machine.Seen.{Closes, EndsInFault, EndsLabelAt, Goes, HasShape, HoldsCasedLabels, Joins, RefusesLabel, empty, long}
 pub use Rattle.zone_name.specs.Machine.Letters.{HoldsLabelsBy, HoldsNameBy, SpellsBy, lettered, lettered_in, name_read, origin_in}
-pub use Rattle.zone_name.specs.Machine.Shown.{IsShown, is_bare}
+pub use Rattle.zone_name.specs.Machine.Shown.{IsShown, is_bare, is_odd}
 pub use Rattle.zone_name.specs.Name.{BeginsWithName, HoldsCasedName, HoldsLabels, HoldsName, IsCasedLabel, IsCasedName, IsFoldedOctet, IsLabel, IsName, IsWithin, folded, folded_label, folded_octet, labels_by, labels_of, wire, with_length}
 pub use Rattle.zone_name.specs.Order.{label_cmp, name_cmp}
 pub use Rattle.zone_name.specs.Spelling.{AreWrittenLabels, BeginsWithEscape, BeginsWithUnit, EndsLabel, FaultAt, IsBadEscape, IsEscape, IsRelative, IsUnit, IsWrittenLabel, Reaches, SpellingFault, Spells, SpellsCased, Writes, WritesBy, WritesCased, Written, absolute, at_origin, bad_escape, decimal, dotted, empty_label, escaped, is_digit, is_dot, kept, long_label, long_name, named, no_octet, octet_of, parted, plain, relative, root, text_of, unfounded, within, written_octets, written_text}

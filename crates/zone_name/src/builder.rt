@@ -72,6 +72,6 @@ impl NameBuilder {
     {
         let mut octets = self.octets;
         octets.push(0);
-        Name::of_octets(octets)
+        Name::holding(octets.as_slice())
     }
 }

@@ -5,8 +5,8 @@ ghost use Rattle.zone_name.specs.Spelling.{SpellingFault, SpellsCased};
 ghost use Rattle.zone_name.specs.Machine.Letters.{origin_in};
 
 use crate::fault::NameFault;
-use crate::limits::MAX_NAME_LEN;
 use crate::name::Name;
+use crate::octets::NameOctets;
 use crate::reading::{Letters, fold, read_name};
 use arrayvec::ArrayVec;
 use std::marker::Model;
@@ -15,7 +15,7 @@ use std::marker::Model;
 /// Contracts see its labels.
 #[derive(Debug, Drop)]
 pub struct CasedName {
-    octets: ArrayVec<u8, MAX_NAME_LEN>,
+    octets: NameOctets,
 }
 
 impl Model for CasedName {
@@ -24,9 +24,9 @@ impl Model for CasedName {
 
     ghost Value = { List (List ℕ) };
 
-    ghost view = { λ n. labels_of n.octets.items };
+    ghost view = { λ n. labels_of n.octets };
 
-    ghost invariant = { λ n. HoldsCasedName n.octets.items };
+    ghost invariant = { λ n. HoldsCasedName n.octets };
 }
 
 impl CasedName {
@@ -75,8 +75,7 @@ impl CasedName {
     pub fn root() -> CasedName
         ensures { result ≡ [] }
     {
-        let mut octets = ArrayVec::new();
-        octets.push(0);
+        let octets = NameOctets::root();
         CasedName { octets }
     }
 
@@ -94,8 +93,7 @@ impl CasedName {
     pub fn copy(&self) -> CasedName
         ensures { result ≡ self.now }
     {
-        let mut octets = ArrayVec::new();
-        let _ = octets.try_extend_from_slice(self.octets.as_slice());
+        let octets = NameOctets::holding(self.octets.as_slice());
         CasedName { octets }
     }
 
@@ -104,9 +102,10 @@ impl CasedName {
     pub fn folded(&self) -> Name
         ensures { result ≡ folded self.now }
     {
-        let mut octets = self.copy().octets;
+        let mut octets = ArrayVec::new();
+        let _ = octets.try_extend_from_slice(self.octets.as_slice());
         fold(&mut octets);
-        Name::of_octets(octets)
+        Name::holding(octets.as_slice())
     }
 }
 

@@ -1,11 +1,10 @@
 //! What is seen of octets, and done to them, 16 at a time.
-ghost use Rattle.std.specs.Prelude.{◌≡◌, ◌+◌, ◌≤◌, false, true, length, map, IfSome, IfNone, IsTrue};
-ghost use Rattle.std.specs.List.{count_by, list_all};
+ghost use Rattle.std.specs.Prelude.{◌≡◌, ◌+◌, ◌≤◌, false, length, map, IsTrue};
+ghost use Rattle.std.specs.List.{count_by};
 ghost use Rattle.std.specs.Simd.Lanes.{chunk, mask_l, put_chunk};
-ghost use Rattle.zone_name.specs.Machine.Shown.{is_bare};
+ghost use Rattle.zone_name.specs.Machine.Shown.{is_odd};
 ghost use Rattle.zone_name.specs.Machine.Plain.{TurnsEvens, is_mark};
 ghost use Rattle.zone_name.specs.Name.{folded_octet};
-ghost use Rattle.zone_name.specs.Spelling.{is_dot};
 
 use std::simd::prelude::*;
 
@@ -19,11 +18,11 @@ pub(crate) const EVENS: u64 = 0x5555;
 /// at.
 pub(crate) const ROOM: usize = 128;
 
-/// By the low four bits of an octet: what is printed after a backslash, but for the dot, and has
-/// these bits. Else 0, which has others.
+/// By the low four bits of an octet: what is printed after a backslash and has these bits. Else 0,
+/// which has others.
 #[rattlefmt::skip]
 const ODD_BY_LOW_BITS: [u8; 16] = [
-    b'@', 0, b'"', 0, b'$', 0, 0, 0, b'(', b')', 0, b';', b'\\', 0, 0, 0,
+    b'@', 0, b'"', 0, b'$', 0, 0, 0, b'(', b')', 0, b';', b'\\', 0, b'.', 0,
 ];
 
 /// Writes octets into the room for them, from a place on.
@@ -79,15 +78,11 @@ pub(crate) fn fold_lanes(octets: &mut [u8], at: usize)
     (lanes | bits).copy_to_slice(&mut octets[at..]);
 }
 
-/// How many of the 16 octets at a place are dots, where each of the others spells itself.
+/// How many of the 16 octets at a place don't spell themselves, as no dot does.
 #[inline(always)]
-pub(crate) fn dots_in(octets: &[u8], at: usize) -> Option<usize>
+pub(crate) fn odd_in(octets: &[u8], at: usize) -> usize
     requires { at + LANES ≤ length octets.now }
-    ensures some { IfSome result (λ dots.
-        (list_all is_bare (chunk at LANES octets.now) ≡ true)
-        × (dots ≡ count_by is_dot (chunk at LANES octets.now))) }
-    ensures none { IfNone result
-        (list_all is_bare (chunk at LANES octets.now) ≡ false) }
+    ensures { result ≡ count_by is_odd (chunk at LANES octets.now) }
 {
     let lanes = u8x16::from_slice(&octets[at..]);
     let low = lanes & u8x16::splat(15);
@@ -95,9 +90,5 @@ pub(crate) fn dots_in(octets: &[u8], at: usize) -> Option<usize>
     let odd = lanes.simd_lt(u8x16::splat(b'!'))
         | lanes.simd_gt(u8x16::splat(b'~'))
         | lanes.simd_eq(alike);
-    if odd.to_bitmask() != 0 {
-        return None;
-    }
-    let dots = lanes.simd_eq(u8x16::splat(b'.'));
-    Some(dots.to_bitmask().count_ones() as usize)
+    odd.to_bitmask().count_ones() as usize
 }

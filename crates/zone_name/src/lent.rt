@@ -97,7 +97,7 @@ impl<'a> NameRef<'a> {
         ensures err { OnErr result (TakesSome S.takes out.old out.new) }
     {
         let len = self.octets.len();
-        if len > 1 && len + LANES <= ROOM {
+        if len > 1 && len <= ROOM - LANES {
             let mut room = [b'a'; ROOM];
             if spell_shown(&mut room, self.octets) {
                 return out.push(&room[1..len]);

@@ -14,6 +14,7 @@ pub mod laws;
 mod lent;
 mod limits;
 mod name;
+mod octets;
 mod order;
 mod reading;
 mod shown;

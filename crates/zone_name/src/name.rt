@@ -7,16 +7,15 @@ ghost use Rattle.zone_name.specs.Machine.Letters.{origin_in};
 use crate::fault::NameFault;
 use crate::labels::Labels;
 use crate::lent::NameRef;
-use crate::limits::MAX_NAME_LEN;
-use crate::reading::{Letters, hold, push_plain, read_name};
-use arrayvec::ArrayVec;
+use crate::octets::NameOctets;
+use crate::reading::{Letters, push_plain, read_name};
 use std::alloc::AllocError;
 use std::marker::Model;
 
 /// A domain name: its uncompressed octets (RFC 1035 3.1) in lower case. Contracts see its labels.
 #[derive(Debug, Drop)]
 pub struct Name {
-    octets: ArrayVec<u8, MAX_NAME_LEN>,
+    octets: NameOctets,
 }
 
 impl Model for Name {
@@ -25,9 +24,9 @@ impl Model for Name {
 
     ghost Value = { List (List ℕ) };
 
-    ghost view = { λ n. labels_of n.octets.items };
+    ghost view = { λ n. labels_of n.octets };
 
-    ghost invariant = { λ n. HoldsName n.octets.items };
+    ghost invariant = { λ n. HoldsName n.octets };
 }
 
 impl Name {
@@ -96,8 +95,7 @@ impl Name {
     pub fn root() -> Name
         ensures { result ≡ [] }
     {
-        let mut octets = ArrayVec::new();
-        octets.push(0);
+        let octets = NameOctets::root();
         Name { octets }
     }
 
@@ -122,7 +120,7 @@ impl Name {
     pub fn copy_from(&mut self, other: &NameRef<'_>)
         ensures { self.new ≡ other.now }
     {
-        hold(&mut self.octets, other.wire());
+        self.octets.hold(other.wire());
     }
 
     /// Does nothing, and tells contracts what holds of every name.
@@ -163,16 +161,7 @@ impl Name {
         requires { HoldsName octets.now }
         ensures { result ≡ labels_of octets.now }
     {
-        let mut held = ArrayVec::new();
-        let _ = held.try_extend_from_slice(octets);
-        Name { octets: held }
-    }
-
-    /// The name of these octets.
-    pub(crate) fn of_octets(octets: ArrayVec<u8, MAX_NAME_LEN>) -> Name
-        requires { HoldsName octets.items }
-        ensures { result ≡ labels_of octets.items }
-    {
+        let octets = NameOctets::holding(octets);
         Name { octets }
     }
 }

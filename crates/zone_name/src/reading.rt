@@ -1,4 +1,4 @@
-ghost use Rattle.std.specs.Prelude.{◌≡◌, ◌≤◌, ◌<◌, ◌+◌, ◌++◌, ◌∷◌, [], ℕ, List, true, false, drop, length, map, replicate, slice_index, take, option_copied};
+ghost use Rattle.std.specs.Prelude.{◌≡◌, ◌≤◌, ◌<◌, ◌+◌, ◌++◌, ◌∷◌, [], ℕ, List, true, false, drop, length, map, slice_index, take, option_copied};
 ghost use Rattle.std.specs.Prelude.{IsOk, IsTrue, IfSome, IfOk, IfErr, OnOk, OnErr, Ok, Err};
 ghost use Rattle.zone_name.specs.Common.{Labels, Octets};
 ghost use Rattle.zone_name.specs.Name.{HoldsName, folded_octet, labels_of};
@@ -14,6 +14,7 @@ use crate::escape::{NextUnit, next_unit};
 use crate::fault::NameFault;
 use crate::lanes::{EVENS, LANES, ROOM, fold_lanes, mark_bits, put, turn_evens};
 use crate::limits::{MAX_LABEL_LEN, MAX_NAME_LEN, check_label};
+use crate::octets::NameOctets;
 use arrayvec::ArrayVec;
 use std::alloc::AllocError;
 
@@ -213,12 +214,12 @@ struct PlainLabels {
     is_absolute: bool,
 }
 
-/// Puts the labels of a text without escapes into a room of dots, with their letters folded or
-/// kept. `None`: the text has an escape or a fault or is long, and the room says nothing.
+/// Puts the labels of a text without escapes into a room, with their letters folded or kept.
+/// `None`: the text has an escape or a fault or is long, and the room says nothing.
 #[inline(always)]
-fn read_plain_labels(room: &mut [u8; ROOM], text: &[u8], letters: Letters) -> Option<PlainLabels>
-    requires { room.old ≡ replicate 128 46 }
-    ensures within { IfSome result (λ plain. plain.len + LANES ≤ 128) }
+fn read_plain_labels(room: &mut [u8], text: &[u8], letters: Letters) -> Option<PlainLabels>
+    requires { length room.old ≤ 255 }
+    ensures within { IfSome result (λ plain. plain.len + LANES ≤ length room.new) }
     ensures holds { IfSome result (λ plain. HoldsLabelsBy letters (take plain.len room.new)) }
     ensures labels { IfSome result (λ plain. IsReadBy letters text.now (take plain.len room.new)
         (record { is_too_long = false; is_absolute = plain.is_absolute })) }
@@ -228,9 +229,11 @@ fn read_plain_labels(room: &mut [u8; ROOM], text: &[u8], letters: Letters) -> Op
         None => (text, false),
     };
     let len = labels.len() + 1;
-    if len + LANES > ROOM {
+    if len + LANES > room.len() {
         return None;
     }
+    room[0] = b'.';
+    room[len] = b'.';
     put(room, 1, labels);
     if !write_lengths(room, len) {
         return None;
@@ -243,31 +246,31 @@ fn read_plain_labels(room: &mut [u8; ROOM], text: &[u8], letters: Letters) -> Op
 /// no room for them.
 #[tactic(auto, using(std::proofs::lemmas::Simd::take_more_put_chunk))]
 #[inline(always)]
-fn end_in_room(room: &mut [u8; ROOM], len: usize, ending: &[u8]) -> Option<usize>
-    requires { len ≤ 128 }
-    ensures within { IfSome result (λ whole. whole ≤ 128) }
+fn end_in_room(room: &mut [u8], len: usize, ending: &[u8]) -> Option<usize>
+    requires { len ≤ length room.old }
+    ensures within { IfSome result (λ whole. whole ≤ length room.new) }
     ensures ended { IfSome result (λ whole. take whole room.new ≡ take len room.old ++ ending.now) }
 {
-    if ending.len() > ROOM - len {
+    if ending.len() > room.len() - len {
         return None;
     }
     put(room, len, ending);
     Some(len + ending.len())
 }
 
-/// Puts the name of a text without escapes, which is neither `.` nor `@`, into a room of dots, and
-/// gives the number of its octets. `None`: the text has an escape or a fault or the name is long,
-/// and the room says nothing.
+/// Puts the name of a text without escapes, which is neither `.` nor `@`, into a room, and gives
+/// the number of its octets. `None`: the text has an escape or a fault or the name is long, and the
+/// room says nothing.
 #[inline(always)]
-fn read_plain(
-    room: &mut [u8; ROOM],
+pub(crate) fn read_plain(
+    room: &mut [u8],
     text: &[u8],
     origin: Option<&[u8]>,
     letters: Letters,
 ) -> Option<usize>
-    requires dots { room.old ≡ replicate 128 46 }
+    requires room { length room.old ≤ 255 }
     requires origin { IfSome (option_copied origin) (HoldsNameBy letters) }
-    ensures within { IfSome result (λ len. len ≤ 128) }
+    ensures within { IfSome result (λ len. len ≤ length room.new) }
     ensures name { IfSome result (λ len. HoldsNameBy letters (take len room.new)
         × (name_read letters (origin_in (option_copied origin.entry)) text.now
         ≡ Ok (labels_of (take len room.new)))) }
@@ -485,101 +488,68 @@ fn read_spelled(
     Ok(spelled)
 }
 
-/// Puts the octets of the name of a text that is neither `.` nor `@` in place (RFC 1035 5.1).
-// Not inlined: the octets are then written where they stay, and not moved.
-#[inline(never)]
-fn read_into(
-    octets: &mut ArrayVec<u8, MAX_NAME_LEN>,
-    text: &[u8],
-    origin: Option<&[u8]>,
-    letters: Letters,
-) -> Result<(), NameFault>
-    requires none { octets.old.items ≡ [] }
-    requires origin { IfSome (option_copied origin) (HoldsNameBy letters) }
-    ensures ok { IfOk result (λ _. HoldsNameBy letters octets.new.items
-        × (name_read letters (origin_in (option_copied origin.entry)) text.now ≡ Ok
-        (labels_of octets.new.items))) }
-    ensures err { IfErr result (λ fault.
-        name_read letters (origin_in (option_copied origin.entry)) text.now ≡ Err fault) }
-{
-    let mut room = [b'.'; ROOM];
-    if let Some(len) = read_plain(&mut room, text, origin, letters) {
-        let _ = octets.try_extend_from_slice(&room[..len]);
-        return Ok(());
-    }
-    let spelled = read_spelled(octets, text, letters)?;
-    finish(octets, spelled, origin)
-}
-
 /// Puts the octets of the name of a text that is neither `.` nor `@` in place of those that are
 /// held (RFC 1035 5.1). On an error they are the root's.
-#[tactic(auto, using(crate::proofs::Spelling::Letters::root_holds))]
+#[tactic(auto, using(crate::proofs::Spelling::Letters::root_holds, crate::proofs::Spelling::Letters::held_short))]
+// Not inlined: many functions read names.
+#[inline(never)]
 fn replace(
-    octets: &mut ArrayVec<u8, MAX_NAME_LEN>,
+    octets: &mut NameOctets,
     text: &[u8],
     origin: Option<&[u8]>,
     letters: Letters,
 ) -> Result<(), NameFault>
     requires { IfSome (option_copied origin) (HoldsNameBy letters) }
-    ensures holds { HoldsNameBy letters octets.new.items }
+    ensures holds { HoldsNameBy letters octets.new }
     ensures ok { OnOk result (name_read letters (origin_in (option_copied origin.entry)) text.now
-        ≡ Ok (labels_of octets.new.items)) }
+        ≡ Ok (labels_of octets.new)) }
     ensures err { IfErr result (λ fault.
         name_read letters (origin_in (option_copied origin.entry)) text.now ≡ Err fault) }
-    ensures root { OnErr result (octets.new.items ≡ 0 ∷ []) }
+    ensures root { OnErr result (octets.new ≡ 0 ∷ []) }
 {
-    octets.clear();
-    match read_into(octets, text, origin, letters) {
-        Ok(()) => Ok(()),
-        Err(fault) => {
-            octets.clear();
-            octets.push(0);
-            Err(fault)
-        }
+    if octets.set_plain(text, origin, letters) {
+        return Ok(());
     }
-}
-
-/// Puts other octets in place of those that are held.
-pub(crate) fn hold(octets: &mut ArrayVec<u8, MAX_NAME_LEN>, name: &[u8])
-    requires { length name.now ≤ 255 }
-    ensures { octets.new.items ≡ name.now }
-{
-    octets.clear();
-    let _ = octets.try_extend_from_slice(name);
+    octets.hold(b"\0");
+    let mut read = ArrayVec::new();
+    let spelled = read_spelled(&mut read, text, letters)?;
+    finish(&mut read, spelled, origin)?;
+    octets.hold(read.as_slice());
+    Ok(())
 }
 
 /// Puts the octets of the name that a text spells under an origin in place of those that are held
 /// (RFC 1035 5.1). On an error they are the root's.
 #[tactic(auto, using(crate::proofs::Spelling::Letters::held_short))]
 pub(crate) fn read_name(
-    octets: &mut ArrayVec<u8, MAX_NAME_LEN>,
+    octets: &mut NameOctets,
     text: &[u8],
     origin: Option<&[u8]>,
     letters: Letters,
 ) -> Result<(), NameFault>
     requires { IfSome (option_copied origin) (HoldsNameBy letters) }
-    ensures holds { HoldsNameBy letters octets.new.items }
+    ensures holds { HoldsNameBy letters octets.new }
     ensures found { OnOk result (SpellsBy letters (origin_in (option_copied origin.entry)) text.now
-        (labels_of octets.new.items)) }
+        (labels_of octets.new)) }
     ensures only { (name : List Octets)
         → SpellsBy letters (origin_in (option_copied origin.entry)) text.now name
-        → IsOk result × (labels_of octets.new.items ≡ name) }
+        → IsOk result × (labels_of octets.new ≡ name) }
     ensures fault { IfErr result
         (SpellingFault (origin_in (option_copied origin.entry)) text.now) }
-    ensures err { OnErr result (labels_of octets.new.items ≡ []) }
+    ensures err { OnErr result (labels_of octets.new ≡ []) }
 {
     match shape_of(text) {
         NameShape::Root => {
-            hold(octets, b"\0");
+            octets.hold(b"\0");
             Ok(())
         }
         NameShape::Origin => match origin {
             Some(above) => {
-                hold(octets, above);
+                octets.hold(above);
                 Ok(())
             }
             None => {
-                hold(octets, b"\0");
+                octets.hold(b"\0");
                 Err(NameFault::RelativeName)
             }
         },

@@ -1,18 +1,16 @@
 //! The spelling of names whose octets all spell themselves, as most do.
-ghost use Rattle.std.specs.Prelude.{◌≡◌, ◌+◌, ◌*◌, ◌≤◌, ◌<◌, ◌++◌, ◌∷◌, ℕ, true, drop, length, take, IfSome, IsTrue};
-ghost use Rattle.std.specs.List.{count_by, flat_map, list_all};
+ghost use Rattle.std.specs.Prelude.{◌≡◌, ◌+◌, ◌*◌, ◌≤◌, ◌<◌, ◌++◌, ◌∷◌, ℕ, drop, length, take, IsTrue};
+ghost use Rattle.std.specs.List.{count_by, flat_map};
 ghost use Rattle.zone_name.specs.Machine.Plain.{TurnsFront};
-ghost use Rattle.zone_name.specs.Machine.Shown.{is_bare};
+ghost use Rattle.zone_name.specs.Machine.Shown.{is_odd};
 ghost use Rattle.zone_name.specs.Name.{BeginsWithName, HoldsName, labels_of, wire};
-ghost use Rattle.zone_name.specs.Spelling.{is_dot};
 ghost use Rattle.zone_name.specs.Text.{name_text};
 
-use crate::lanes::{LANES, dots_in, put, turn_evens};
+use crate::lanes::{LANES, odd_in, put, turn_evens};
 
 /// Writes a dot and the spelling of a name that isn't the root over the first octets, and tells
 /// whether each octet of its labels spells itself. If not, the octets say nothing.
-// Not inlined: `print` is made anew for each kind of sink, and this is the same for all.
-#[inline(never)]
+#[inline(always)]
 pub(crate) fn spell_shown(room: &mut [u8], name: &[u8]) -> bool
     requires name { HoldsName name.now }
     requires some { 1 < length name.now }
@@ -23,10 +21,7 @@ pub(crate) fn spell_shown(room: &mut [u8], name: &[u8]) -> bool
 {
     put(room, 0, name);
     let labels = write_dots(room);
-    match count_dots(room, name.len()) {
-        Some(dots) => dots == labels + 1,
-        None => false,
-    }
+    count_odd(room, name.len()) == labels + 1
 }
 
 /// Writes dots over the lengths of the labels of one octet that come first, by eight, as far as 16
@@ -46,6 +41,7 @@ fn dot_ones(octets: &mut [u8]) -> usize
 
 /// Writes a dot over the length of each label of the name that the octets begin with and over its
 /// root, and returns how many labels it has.
+#[inline(always)]
 fn write_dots(octets: &mut [u8]) -> usize
     requires name { BeginsWithName octets.old }
     requires room { 2 * LANES ≤ length octets.old }
@@ -55,29 +51,30 @@ fn write_dots(octets: &mut [u8]) -> usize
 {
     let mut at = dot_ones(octets);
     let mut labels = at / 2;
-    while octets[at] != 0 {
+    loop {
         let len = octets[at] as usize;
         octets[at] = b'.';
+        if len == 0 {
+            return labels;
+        }
         at += len + 1;
         labels += 1;
     }
-    octets[at] = b'.';
-    labels
 }
 
-/// How many dots are among the first octets, where each of the others spells itself. Up to 15
-/// octets after them are looked at too.
-fn count_dots(octets: &[u8], len: usize) -> Option<usize>
+/// How many of the first octets don't spell themselves, as no dot does. Up to 15 octets after them
+/// are counted too.
+#[inline(always)]
+fn count_odd(octets: &[u8], len: usize) -> usize
     requires { len + LANES ≤ length octets.now }
-    ensures { IfSome result (λ dots. (seen : ℕ) × (len ≤ seen) × (seen < len + LANES)
-        × (list_all is_bare (take seen octets.now) ≡ true)
-        × (dots ≡ count_by is_dot (take seen octets.now))) }
+    ensures { (seen : ℕ) × (len ≤ seen) × (seen < len + LANES)
+        × (result ≡ count_by is_odd (take seen octets.now)) }
 {
     let mut at = 0;
-    let mut dots = 0;
+    let mut odd = 0;
     while at < len {
-        dots += dots_in(octets, at)?;
+        odd += odd_in(octets, at);
         at += LANES;
     }
-    Some(dots)
+    odd
 }

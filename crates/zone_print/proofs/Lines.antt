@@ -19,7 +19,7 @@ pub line_parts : (owner ttl class kind rdata : List ℕ) → owner ++ 32 ∷ ttl
 line_parts owner ttl class kind rdata = regroup owner (32 ∷ ttl) (32 ∷ class) (32 ∷ kind) (32 ∷ rdata) (10 ∷ [])
 
 -- a line is its owner, its middle in two parts, the data and a line feed
-pub line_split : (r : Record) → line r ≡ name_text r.owner ++ (before_kind r ++ (kind_column r ++ (data_text (data_of r) ++ 10 ∷ [])))
+pub line_split : (r : Record) → line r ≡ name_text r.owner ++ (before_kind r.ttl r.class ++ (kind_column r.class r.kind ++ (data_text (data_of r) ++ 10 ∷ [])))
 line_split r = grind (arith, common_steps)
 
 -- a line is the text of its record and a line feed
@@ -27,13 +27,13 @@ pub line_shown : (r : Record) → line r ≡ record_text r ++ 10 ∷ []
 line_shown r = grind (arith, common_steps)
 
 -- of the middle of the last record what stands before its type is kept
-pub middle_kept : (text : List ℕ) (kept : ℕ) (last r : Record) → HoldsMiddle text kept last → last.ttl ≡ r.ttl
-    → last.class ≡ r.class → HoldsMiddle (take kept text ++ kind_column r) kept r
-middle_kept text kept last r held ttl class =
+pub middle_kept : (text : List ℕ) (kept ttl class kind kind' : ℕ) → HoldsMiddle text kept ttl class kind
+    → HoldsMiddle (take kept text ++ kind_column class kind') kept ttl class kind'
+middle_kept text kept ttl class kind kind' held =
     grind (arith, common_steps, before_kind, take_at, kind_column)
 
 -- owner, middle and what follows them were pushed
-pub line_pushed : (old named numbered new owner middle : List ℕ) (r : Record) → owner ≡ name_text r.owner → middle ≡ line_middle r
+pub line_pushed : (old named numbered new owner middle : List ℕ) (r : Record) → owner ≡ name_text r.owner → middle ≡ line_middle r.ttl r.class r.kind
     → named ≡ old ++ owner → numbered ≡ named ++ middle → new ≡ numbered ++ (data_text (data_of r) ++ 10 ∷ []) → new ≡ old ++ line r
 line_pushed old named numbered new owner middle r e f g h i = grind (arith, common_steps)
 

@@ -16,7 +16,7 @@ use zone_set::UnorderedRecords;
 ///
 /// `out` refuses octets. A prefix of the text may have been appended.
 pub(crate) fn push_before_kind<S: Sink>(out: &mut S, rr: &RrRef) -> Result<(), S::Error>
-    ensures { OnOk result (S.takes out.old (before_kind (record_of rr.now)) out.new) }
+    ensures { OnOk result (S.takes out.old (before_kind rr.now.ttl rr.now.class) out.new) }
 {
     let mut digits = Buffer::new();
     out.push(b" ")?;
@@ -32,7 +32,7 @@ pub(crate) fn push_before_kind<S: Sink>(out: &mut S, rr: &RrRef) -> Result<(), S
 ///
 /// `out` refuses octets. A prefix of the text may have been appended.
 pub(crate) fn push_kind<S: Sink>(out: &mut S, rr: &RrRef) -> Result<(), S::Error>
-    ensures { OnOk result (S.takes out.old (kind_column (record_of rr.now)) out.new) }
+    ensures { OnOk result (S.takes out.old (kind_column rr.now.class rr.now.kind) out.new) }
 {
     rr.kind.push_word(rr.class, out)?;
     out.push(b" ")

@@ -7,14 +7,24 @@ ghost use Rattle.zone_rdata.specs.Lent.{record_of};
 use crate::line::{push_before_kind, push_data, push_kind};
 use std::alloc::{AllocError, Global};
 use std::marker::Model;
-use zone_rdata::RrRef;
+use zone_name::NameRef;
+use zone_rdata::{Class, Kind, RrRef};
+
+/// What a line may have in common with the next one.
+#[derive(Drop)]
+struct Head<'z> {
+    owner: NameRef<'z>,
+    ttl: u32,
+    class: Class,
+    kind: Kind,
+}
 
 /// Lines that are gathered. What a line has in common with the one before it is copied.
 #[derive(Drop)]
 pub(crate) struct LineBuffer<'z> {
     octets: Vec<u8>,
-    /// The last record; `None` where `owner` and `middle` are those of no record.
-    last: Option<RrRef<'z>>,
+    /// The last line's; `None` where `owner` and `middle` are those of no line.
+    last: Option<Head<'z>>,
     /// The text of its owner.
     owner: Vec<u8>,
     /// What stands between its owner and its data.
@@ -27,15 +37,13 @@ impl<'z> Model for LineBuffer<'z> {
     ghost use Rattle.std.specs.Prelude.{◌≡◌, List, ℕ, IfSome};
     ghost use Rattle.zone_name.specs.Text.{name_text};
     ghost use Rattle.zone_print.specs.Machine.Middle.{HoldsMiddle};
-    ghost use Rattle.zone_rdata.specs.Lent.{record_of};
 
     ghost Value = { List ℕ };
 
     ghost view = { λ b. b.octets.items };
 
-    ghost invariant = { λ b. IfSome b.last (λ r.
-        (b.owner.items ≡ name_text r.owner)
-        × HoldsMiddle b.middle.items b.before_kind (record_of r)) };
+    ghost invariant = { λ b. IfSome b.last (λ h. (b.owner.items ≡ name_text h.owner)
+        × HoldsMiddle b.middle.items b.before_kind h.ttl h.class h.kind) };
 }
 
 impl<'z> LineBuffer<'z> {
@@ -112,13 +120,18 @@ impl<'z> LineBuffer<'z> {
         self.octets.extend_from_slice(self.owner.as_slice())?;
         self.octets.extend_from_slice(self.middle.as_slice())?;
         push_data(&mut self.octets, &rr)?;
-        self.last = Some(rr);
+        self.last = Some(Head {
+            owner: rr.owner,
+            ttl: rr.ttl,
+            class: rr.class,
+            kind: rr.kind,
+        });
         Ok(())
     }
 }
 
 /// Makes the text that of the record's owner, where it isn't already the last one's.
-fn hold_owner(text: &mut Vec<u8>, last: &Option<RrRef>, rr: &RrRef) -> Result<(), AllocError>
+fn hold_owner(text: &mut Vec<u8>, last: &Option<Head>, rr: &RrRef) -> Result<(), AllocError>
     requires { IfSome last.now (λ last. text.old.items ≡ name_text last.owner) }
     ensures { OnOk result (text.new.items ≡ name_text rr.now.owner) }
 {
@@ -137,11 +150,13 @@ fn hold_owner(text: &mut Vec<u8>, last: &Option<RrRef>, rr: &RrRef) -> Result<()
 fn hold_middle(
     text: &mut Vec<u8>,
     before_kind: usize,
-    last: &Option<RrRef>,
+    last: &Option<Head>,
     rr: &RrRef,
 ) -> Result<usize, AllocError>
-    requires { IfSome last.now (λ last. HoldsMiddle text.old.items before_kind (record_of last)) }
-    ensures { IfOk result (λ n. HoldsMiddle text.new.items n (record_of rr.now)) }
+    requires { IfSome last.now (λ last.
+        HoldsMiddle text.old.items before_kind last.ttl last.class last.kind) }
+    ensures { IfOk result (λ n.
+        HoldsMiddle text.new.items n rr.now.ttl rr.now.class rr.now.kind) }
 {
     if let Some(last) = last {
         if last.ttl == rr.ttl && last.class == rr.class {

@@ -58,13 +58,23 @@ impl RdataBuilder {
     pub fn new(alloc: Global, class: Class, kind: Kind) -> RdataBuilder
         ensures { result ≡ record { class = class; kind = kind; parts = [] } }
     {
+        RdataBuilder::reusing(Rdata::empty(alloc), class, kind)
+    }
+
+    /// Data of a class and type, without a part yet, in the memory of other data.
+    #[inline(always)]
+    pub fn reusing(rdata: Rdata, class: Class, kind: Kind) -> RdataBuilder
+        ensures { result ≡ record { class = class; kind = kind; parts = [] } }
+    {
         let fields = layout_of(class, kind);
+        let mut octets = rdata.into_octets();
+        octets.clear();
         RdataBuilder {
             class,
             kind,
             fields,
             count: 0,
-            octets: Vec::new(alloc),
+            octets,
         }
     }
 
@@ -185,6 +195,7 @@ impl RdataBuilder {
     /// # Errors
     ///
     /// `BadRdata` where a part is missing.
+    #[inline(always)]
     pub fn finish(self) -> Result<Rdata, Fault>
         ensures whole { OnOk result (IsWhole (layout self.class self.kind) self.parts) }
         ensures ok { IfOk result (λ d. d ≡ record {

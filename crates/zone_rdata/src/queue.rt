@@ -1,17 +1,20 @@
 //! The records that a source has decided and not given yet.
-ghost use Rattle.std.specs.Prelude.{◌≡◌, ◌∷◌, ◌++◌, [], None, Some, OnOk, OnErr, option_map};
+ghost use Rattle.std.specs.Prelude.{◌≡◌, ◌≤◌, ◌∷◌, ◌++◌, [], None, Some, OnOk, OnErr, option_map};
 ghost use Rattle.zone_rdata.specs.Lent.{placed_of, record_of};
-ghost use Rattle.zone_rdata.specs.Record.{IsRecord};
+ghost use Rattle.zone_rdata.specs.Limits.{greatest_ttl};
+ghost use Rattle.zone_rdata.specs.Record.{IsRecord, record_with};
 ghost use Rattle.zone_rdata.specs.RrSource.{first_record, others};
 
 use crate::fault::{Failing, Fault, Place, Stop};
 use crate::lent::{PlacedRef, RrRef};
 use crate::narrow_failing::NarrowFailing;
+use crate::rdata::Rdata;
 use crate::record::Placed;
 use crate::rr_source::{LendingSource, Reading, RrSource, record_or_ending};
 use std::alloc::{AllocError, Global};
 use std::collections::VecDeque;
 use std::marker::Model;
+use zone_name::NameRef;
 
 /// The greatest number of octets for which the memory of dropped data is kept. Nearly all data is
 /// shorter, and what is kept then goes by the number of records.
@@ -70,6 +73,41 @@ impl RecordQueue {
         match self.slots.get_mut(self.end) {
             Some(slot) => slot.set(rr, place)?,
             None => push_slot(&mut self.slots, rr, place)?,
+        }
+        self.end += 1;
+        Ok(())
+    }
+
+    /// Appends the record of an owner, a TTL in seconds that was judged before, and data, with its
+    /// place. `rdata` gives its data up, and has some other from then on, in whose memory the next
+    /// data can be read.
+    ///
+    /// # Errors
+    ///
+    /// `AllocError` where memory is refused. The queue and the data are unchanged.
+    #[inline(always)]
+    pub fn push_exchanged(
+        &mut self,
+        owner: NameRef<'_>,
+        ttl: u32,
+        rdata: &mut Rdata,
+        place: Place,
+    ) -> Result<(), AllocError>
+        requires { ttl ≤ greatest_ttl }
+        ensures appended { OnOk result (self.new ≡ self.old
+            ++ record { rr = record_with owner.entry ttl rdata.old; place = place } ∷ []) }
+        ensures record { IsRecord (record_with owner.entry ttl rdata.old) }
+        ensures unchanged { OnErr result (self.new ≡ self.old) }
+        ensures left { OnErr result (rdata.new ≡ rdata.old) }
+    {
+        rdata.known();
+        self.turn();
+        match self.slots.get_mut(self.end) {
+            Some(slot) => slot.exchange(&owner, ttl, rdata, place),
+            None => {
+                let rr = RrRef::of_parts(owner, ttl, rdata.lend());
+                push_slot(&mut self.slots, &rr, place)?;
+            }
         }
         self.end += 1;
         Ok(())

@@ -239,6 +239,13 @@ impl Rdata {
         self.octets.as_slice()
     }
 
+    /// The octets, in a memory that can be used anew.
+    pub(crate) fn into_octets(self) -> Vec<u8>
+        ensures { result.items ≡ self.octets }
+    {
+        self.octets
+    }
+
     /// The data, borrowed.
     pub fn lend(&self) -> RdataRef<'_>
         ensures { result ≡ self.now }

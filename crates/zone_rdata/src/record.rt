@@ -9,6 +9,7 @@ use crate::lent::{PlacedRef, RdataRef, RrRef};
 use crate::rdata::Rdata;
 use std::alloc::{AllocError, Global};
 use std::marker::Model;
+use std::mem::swap;
 use zone_name::{Name, NameRef};
 
 /// The greatest TTL, in seconds (RFC 2181 8).
@@ -212,6 +213,27 @@ impl Placed {
         slot.ttl = rr.ttl;
         self.place = place;
         Ok(())
+    }
+
+    /// Becomes the record of an owner, a TTL in seconds that was judged before, and data, with its
+    /// place. The data is exchanged for that of the record of before.
+    #[inline(always)]
+    pub(crate) fn exchange(
+        &mut self,
+        owner: &NameRef<'_>,
+        ttl: u32,
+        rdata: &mut Rdata,
+        place: Place,
+    )
+        requires { ttl ≤ MAX_TTL }
+        ensures { self.new ≡ record { rr = record_with owner.now ttl rdata.old; place = place } }
+    {
+        let _ = owner.wire();
+        rdata.known();
+        let slot = &mut self.rr;
+        swap(&mut slot.rdata, rdata);
+        slot.owner.copy_from(owner);
+        (slot.ttl, self.place) = (ttl, place);
     }
 
     /// The record and its place, borrowed.

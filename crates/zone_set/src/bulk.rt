@@ -1,18 +1,20 @@
-ghost use Rattle.std.specs.Prelude.{◌≡◌, ◌≤◌, ◌∷◌, length, take, IsTrue};
+ghost use Rattle.std.specs.Prelude.{◌≡◌, ◌-◌, ◌≤◌, ◌∷◌, length, map, take, IfSome, IsTrue};
+ghost use Rattle.std.specs.declared.cmp.Ordering.TheVariants.{Greater, Less};
 ghost use Rattle.std.specs.List.{dedup, AllByRecursion};
 ghost use Rattle.std.specs.List.Sorted.{IsPermutation};
 ghost use Rattle.zone_name.specs.Common.{Labels};
-ghost use Rattle.zone_set.specs.Machine.Bulk.{is_repeat, AreNeighbours, StandNext};
+ghost use Rattle.zone_set.specs.Machine.Bulk.{is_repeat, with_hint, AreNeighbours, StandNext};
 ghost use Rattle.zone_set.specs.Machine.Held.{all_records, entry_record, IsEntry};
 ghost use Rattle.zone_set.specs.Zone.{AreCompatible, SameRecords};
 
 use crate::entry::Entry;
-use crate::keys::{first_digit, first_run, sort_by_hint, sort_run};
+use crate::keys::{FEW, first_digit, first_run, sort_all, sort_by_hint, sort_run};
 use crate::offered::canonical_order;
 use crate::put::has_other_ttl;
 use crate::sets::is_other_soa;
 use crate::stored::record_at;
 use crate::tie;
+use std::cmp::Ordering;
 use zone_rdata::Class;
 
 /// How many entries are looked at at once.
@@ -57,27 +59,103 @@ fn sort_and_look(class: Class, base_len: usize, octets: &[u8], entries: &mut Vec
     sort_runs(class, octets, entries.as_mut_slice(), front)
 }
 
-/// `sort_and_look` for hints that have the digits before one. Entries of one hint are looked at as
-/// soon as they are sorted, since then the cache has their records.
+/// `sort_and_look` for hints that have the digits before one.
 fn sort_runs(class: Class, octets: &[u8], entries: &mut [Entry], front: usize) -> bool
     ghost base: { Labels }
     requires { AllByRecursion (IsEntry base class octets.now) entries.old }
     ensures moved { IsPermutation entries.old entries.new }
     ensures next { IsTrue result → AreNeighbours (all_records class octets.now entries.new) }
 {
+    if put_runs(class, octets, entries, front) {
+        return true;
+    }
+    // Repeats come to stand together.
+    sort_all(entries, octets, front);
+    false
+}
+
+/// Sorts entries as long as each one's record stands before the next one's, and both may stand in
+/// one zone, and tells whether all do. Entries of one hint are looked at as soon as they are sorted,
+/// since then the cache has their records.
+fn put_runs(class: Class, octets: &[u8], entries: &mut [Entry], front: usize) -> bool
+    ghost base: { Labels }
+    requires { AllByRecursion (IsEntry base class octets.now) entries.old }
+    ensures moved { IsPermutation entries.old entries.new }
+    ensures next { IsTrue result → AreNeighbours (all_records class octets.now entries.new) }
+{
     sort_by_hint(entries);
-    let (mut start, mut stand, mut seen) = (0, true, 0usize);
+    let (mut start, mut seen) = (0, 0usize);
     while let Some((hint, len)) = first_run(&entries[start..]) {
         if start >= seen {
-            stand &= records_stand(octets, &entries[start..]);
+            if !records_stand(octets, &entries[start..]) {
+                return false;
+            }
             seen = start.saturating_add(AHEAD);
         }
-        let run = &mut entries[start..start + len];
-        sort_run(run, octets, front, hint, first_digit(hint, front, 0));
-        stand = stand_after(stand, class, octets, &entries[..start + len], start);
+        sort_many(&mut entries[start..start + len], octets, front, hint);
+        if !put_run(class, octets, &mut entries[..start + len], start) {
+            return false;
+        }
         start += len;
     }
-    stand
+    true
+}
+
+/// Sorts entries of one hint by keys, where they are more than a few.
+fn sort_many(run: &mut [Entry], octets: &[u8], front: usize, hint: u64)
+    requires { map (with_hint hint) run.old ≡ run.old }
+    ensures { IsPermutation run.old run.new }
+{
+    if run.len() > FEW {
+        sort_run(run, octets, front, hint, first_digit(hint, front, 0));
+    }
+}
+
+/// Puts entries from a place on among those before them, one after another, as long as all stand in
+/// order and can stand in one zone, and tells whether they do. Few are sorted so, and more were
+/// sorted before: what stands where it should costs one comparison.
+fn put_run(class: Class, octets: &[u8], entries: &mut [Entry], start: usize) -> bool
+    ghost base: { Labels }
+    requires each { AllByRecursion (IsEntry base class octets.now) entries.old }
+    requires within { start ≤ length entries.old }
+    ensures moved { IsPermutation entries.old entries.new }
+    ensures next { IsTrue result
+        → AreNeighbours (all_records class octets.now (take start entries.old))
+        → AreNeighbours (all_records class octets.now entries.new) }
+{
+    let mut put = start;
+    while put < entries.len() {
+        if (entries.len() - put) % AHEAD == 0 && !run_stands(octets, &entries[put..]) {
+            return false;
+        }
+        put += 1;
+        if !put_last(class, octets, &mut entries[..put]) {
+            return false;
+        }
+    }
+    true
+}
+
+/// Puts the last entry among those before it, if these stand in order, and tells whether it can
+/// stand there.
+fn put_last(class: Class, octets: &[u8], entries: &mut [Entry]) -> bool
+    ghost base: { Labels }
+    requires { AllByRecursion (IsEntry base class octets.now) entries.old }
+    ensures moved { IsPermutation entries.old entries.new }
+    ensures next { IsTrue result
+        → AreNeighbours (all_records class octets.now (take (length entries.old - 1) entries.old))
+        → AreNeighbours (all_records class octets.now entries.new) }
+{
+    let mut at = entries.len().saturating_sub(1);
+    while at > 0 {
+        match standing(class, octets, entries[at - 1], entries[at]) {
+            Some(Ordering::Less) => return true,
+            Some(Ordering::Greater) => entries.swap(at - 1, at),
+            Some(Ordering::Equal) | None => return false,
+        }
+        at -= 1;
+    }
+    true
 }
 
 /// Whether records stand where the next entries say that share a hint, as they do. By the question
@@ -126,22 +204,6 @@ fn stands(octets: &[u8], at: usize) -> bool {
     }
 }
 
-/// Whether the entries before a place stand, as is told, and those from there on after them.
-fn stand_after(stand: bool, class: Class, octets: &[u8], entries: &[Entry], start: usize) -> bool
-    ghost base: { Labels }
-    requires each { AllByRecursion (IsEntry base class octets.now) entries.now }
-    requires within { start ≤ length entries.now }
-    ensures before { IsTrue result → IsTrue stand }
-    ensures all { IsTrue result
-        → AreNeighbours (all_records class octets.now (take start entries.now))
-        → AreNeighbours (all_records class octets.now entries.now) }
-{
-    if !stand {
-        return false;
-    }
-    are_neighbours(class, octets, &entries[start.saturating_sub(1)..])
-}
-
 /// Drops each entry whose record is that of the one before it.
 fn drop_repeats(entries: &mut Vec<Entry>, octets: &[u8])
     ensures { entries.new.items ≡ dedup (is_repeat octets.now) entries.old.items }
@@ -163,7 +225,7 @@ pub(crate) fn are_neighbours(class: Class, octets: &[u8], entries: &[Entry]) -> 
         if left.len() % AHEAD == 0 && !run_stands(octets, left) {
             return false;
         }
-        if !stand_next(class, octets, last, *next) {
+        if standing(class, octets, last, *next) != Some(Ordering::Less) {
             return false;
         }
         last = *next;
@@ -172,26 +234,25 @@ pub(crate) fn are_neighbours(class: Class, octets: &[u8], entries: &[Entry]) -> 
     true
 }
 
-/// Whether the record of one entry stands before that of another, and both may stand in one zone.
-fn stand_next(class: Class, octets: &[u8], a: Entry, b: Entry) -> bool
+/// How the records of two entries stand, where both may stand in one zone.
+fn standing(class: Class, octets: &[u8], a: Entry, b: Entry) -> Option<Ordering>
     ghost base: { Labels }
     requires first { IsEntry base class octets.now a }
     requires second { IsEntry base class octets.now b }
-    ensures { IsTrue result
-        → StandNext (entry_record class octets.now a) (entry_record class octets.now b) }
+    ensures before { IfSome result (λ order. order ≡ Less
+        → StandNext (entry_record class octets.now a) (entry_record class octets.now b)) }
+    ensures after { IfSome result (λ order. order ≡ Greater
+        → StandNext (entry_record class octets.now b) (entry_record class octets.now a)) }
 {
     if a.hint != b.hint {
-        return a.hint < b.hint;
+        return Some(a.hint.cmp(&b.hint));
     }
     let (rr, next) = (
         record_at(class, octets, a.at),
         record_at(class, octets, b.at),
     );
-    if !canonical_order(&rr, &next).is_lt() {
-        return false;
+    if has_other_ttl(&rr, &next) || is_other_soa(&rr, &next) {
+        return None;
     }
-    if has_other_ttl(&rr, &next) {
-        return false;
-    }
-    !is_other_soa(&rr, &next)
+    Some(canonical_order(&rr, &next))
 }

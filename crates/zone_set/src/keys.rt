@@ -5,10 +5,10 @@ ghost use Rattle.zone_set.specs.Machine.Bulk.{with_hint};
 use crate::entry::Entry;
 use crate::hint::{alone_digit, is_within, longer_digit};
 use crate::owner::{first_label, past_far, shared_end};
-use crate::tie::{StoredParts, entry_order, stored_at};
+use crate::tie::{StoredParts, stored_at, tie_order};
 
 /// How many entries are at most sorted by their octets alone.
-const FEW: usize = 8;
+pub(crate) const FEW: usize = 8;
 
 /// After so many digits octets are compared, and no more keys are made.
 const FAR: usize = 320;
@@ -24,7 +24,9 @@ pub(crate) fn sort_by_hint(entries: &mut [Entry])
 }
 
 /// Sorts all entries by their hints and then by their records.
-pub(crate) fn sort_all(entries: &mut [Entry], octets: &[u8], front: usize) {
+pub(crate) fn sort_all(entries: &mut [Entry], octets: &[u8], front: usize)
+    ensures { IsPermutation entries.old entries.new }
+{
     sort(entries, octets, front, 0);
 }
 
@@ -91,24 +93,20 @@ pub(crate) fn sort_run(run: &mut [Entry], octets: &[u8], front: usize, hint: u64
         return;
     }
     if run.len() <= FEW || digit > FAR {
-        run.sort_unstable_by(|a, b| entry_order(octets, a, b));
+        run.sort_unstable_by(|a, b| tie_order(octets, a.at, b.at));
         return;
     }
     // Nor are keys made where all are equal.
-    if run.is_sorted_by(|a, b| entry_order(octets, a, b).is_le()) {
+    if run.is_sorted_by(|a, b| tie_order(octets, a.at, b.at).is_le()) {
         return;
     }
     let digit = digit.max(shared_digits(run, octets, front));
-    if digit > FAR {
-        run.sort_unstable_by(|a, b| entry_order(octets, a, b));
-        return;
-    }
     set_keys(run, octets, front, digit);
-    sort(run, octets, front, digit + 8);
+    sort(run, octets, front, digit.saturating_add(8));
     set_hint(run, hint);
 }
 
-/// How many digits all records of a run have in common, or fewer.
+/// How many digits of their owners all records of a run have in common, or fewer.
 #[inline(never)]
 fn shared_digits(run: &[Entry], octets: &[u8], front: usize) -> usize {
     let Some((first, rest)) = run.split_first() else {
@@ -117,66 +115,21 @@ fn shared_digits(run: &[Entry], octets: &[u8], front: usize) -> usize {
     let Some(one) = stored_at(octets, first.at) else {
         return 0;
     };
-    let whole = one.owner.len();
+    let (whole, mut end, mut all) = (one.owner.len(), one.owner, true);
     if whole < SHORT {
         return 0;
     }
-    let mut end = one.owner;
-    let mut all = true;
-    let mut kinds = true;
-    let mut data = one.data;
-    let mut same = true;
     for entry in rest {
         let Some(other) = stored_at(octets, entry.at) else {
             return 0;
         };
         all &= other.owner.len() == whole;
-        kinds &= other.kind == one.kind;
         end = shared_end(end, other.owner);
-        // Data tell no digit where owners differ.
-        if all && kinds && end.len() == whole {
-            same &= other.data.len() == one.data.len();
-            data = shared_front(data, other.data);
-        }
     }
     if all && end.len() == whole {
-        let kind_at = front.max(whole);
-        if kinds && same && data.len() == one.data.len() {
-            // No digit is left.
-            return FAR + 1;
-        }
-        return if kinds {
-            kind_at.saturating_add(2).saturating_add(data.len())
-        } else {
-            kind_at
-        };
-    }
-    end.len().saturating_sub(1)
-}
-
-/// The front that octets share with others, by eight.
-fn shared_front<'z>(a: &'z [u8], b: &[u8]) -> &'z [u8] {
-    let (mut left, mut right) = (a, b);
-    while let (Some((x, more)), Some((y, others))) = (
-        left.split_first_chunk::<8>(),
-        right.split_first_chunk::<8>(),
-    ) {
-        if x != y {
-            break;
-        }
-        left = more;
-        right = others;
-    }
-    while let (Some((x, more)), Some((y, others))) = (left.split_first(), right.split_first()) {
-        if x != y {
-            break;
-        }
-        left = more;
-        right = others;
-    }
-    match a.split_at_checked(a.len().saturating_sub(left.len())) {
-        Some((front, _)) => front,
-        None => a,
+        front.max(whole)
+    } else {
+        end.len().saturating_sub(1)
     }
 }
 

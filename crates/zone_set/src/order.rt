@@ -23,7 +23,7 @@ pub(crate) fn octet_order(a: &[u8], b: &[u8]) -> Ordering
     if x != y {
         return x.cmp(&y);
     }
-    order_after(more, others)
+    more.cmp(others)
 }
 
 /// Whether octets are the same. None is looked at where the lengths differ, and else eight at a
@@ -73,24 +73,4 @@ fn have_same_eights(a: &[u8], b: &[u8]) -> bool
         right = others;
     }
     true
-}
-
-/// `octet_order`, eight octets after eight. It is no part of a search, which is shorter without it.
-#[inline(never)]
-fn order_after(a: &[u8], b: &[u8]) -> Ordering
-    ensures { result ≡ slice_cmp nat_cmp a.now b.now }
-{
-    let (mut left, mut right) = (a, b);
-    while let Some((x, more)) = left.split_first_chunk::<8>() {
-        let Some((y, others)) = right.split_first_chunk::<8>() else {
-            break;
-        };
-        let (x, y) = (u64::from_be_bytes(*x), u64::from_be_bytes(*y));
-        if x != y {
-            return x.cmp(&y);
-        }
-        left = more;
-        right = others;
-    }
-    left.cmp(right)
 }

@@ -110,13 +110,9 @@ pub(crate) fn may_be_many(
 ) -> Result<bool, AllocError> {
     let mut seen = Seen::new(alloc, entries.len())?;
     let (half, mut new_octets) = (octets.len() / 2, 0usize);
-    let mut last = None;
     for entry in entries {
         let record = span(octets, entry.at);
-        // The records of a set often stand together.
-        let is_first = last != Some(entry.hint) && seen.insert(mixed(entry.hint, 0));
-        last = Some(entry.hint);
-        if is_first || seen.insert(digest(entry.hint, record)) {
+        if seen.insert(mixed(entry.hint, 0)) || seen.insert(digest(entry.hint, record)) {
             new_octets = new_octets.saturating_add(record.len());
             if new_octets > half {
                 return Ok(false);

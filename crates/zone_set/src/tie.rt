@@ -6,18 +6,11 @@ use crate::order::{are_same, octet_order};
 use crate::owner::owner_order;
 use std::cmp::Ordering;
 
-/// How the records of entries lie, by which they are sorted. Nothing rests on it but how soon a
-/// zone is made: it may be asked of any entries, and no contract speaks of what it answers.
-pub(crate) fn entry_order(octets: &[u8], a: &Entry, b: &Entry) -> Ordering {
-    if a.hint != b.hint {
-        return a.hint.cmp(&b.hint);
-    }
-    tie_order(octets, a.at, b.at)
-}
-
-/// How records of one hint lie, by owner, type and data.
+/// How the records of entries of one hint lie, by which these are sorted: by owner, type and data.
+/// Nothing rests on it but how soon a zone is made: it may be asked of any places, and no contract
+/// speaks of what it answers.
 #[inline(never)]
-fn tie_order(octets: &[u8], a: usize, b: usize) -> Ordering {
+pub(crate) fn tie_order(octets: &[u8], a: usize, b: usize) -> Ordering {
     let (Some(x), Some(y)) = (stored_at(octets, a), stored_at(octets, b)) else {
         return Ordering::Equal;
     };

@@ -1,5 +1,5 @@
 -- A text cut into tokens, and the items of these.
-pub mod BlankLines
+pub mod EmptyLines
 pub mod CutAgain
 pub mod Cuttings
 pub mod FirstTokens

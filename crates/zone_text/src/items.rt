@@ -5,7 +5,6 @@ ghost use Rattle.zone_text.specs.Tokens.{is_blank};
 ghost use Rattle.zone_text.specs.Machine.ItemLengths.{EndsAt, stops_bare, stops_within};
 ghost use Rattle.zone_text.specs.Machine.Kept.{IsShort, Keeps};
 
-use crate::table::stops_bare;
 use crate::until::len_until;
 use std::alloc::AllocError;
 use zone_name::laws::are_octets;
@@ -37,6 +36,13 @@ pub(crate) fn plain_len(text: &[u8], extent: Extent) -> usize
         Extent::Bare => plain_bare_len(text),
         Extent::Quoted => len_until(text, b'"', b'\\'),
     }
+}
+
+/// Whether the octet ends a bare item where no backslash stands before it, or is a backslash.
+fn stops_bare(octet: u8) -> bool
+    ensures { result ≡ stops_bare octet }
+{
+    is_blank(octet) || matches!(octet, b'\n' | b'"' | b'(' | b')' | b';' | b'\\')
 }
 
 /// As `plain_len`, of a bare item.

@@ -3,7 +3,6 @@
 #![tactic(auto)]
 
 mod blank;
-mod comment;
 mod ended;
 mod entry;
 pub mod examples;
@@ -14,11 +13,9 @@ mod open_entry;
 mod parser_state;
 mod parts;
 mod reader;
-mod row;
 mod splitter;
 mod statements;
 mod stops;
-mod table;
 mod text_source;
 mod token;
 mod until;

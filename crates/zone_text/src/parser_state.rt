@@ -36,7 +36,7 @@ pub(crate) struct ParserState {
     pub(crate) last_ttl: Option<u32>,
     /// The MINIMUM of the last SOA, in seconds.
     pub(crate) minimum: Option<u32>,
-    /// The data of the last record that was read, whose memory the next one's takes.
+    /// Data whose memory the next record's takes.
     rdata: Rdata,
 }
 

@@ -7,8 +7,8 @@ ghost use Rattle.zone_rdata.specs.Strings.{is_quote};
 ghost use Rattle.zone_text.specs.Machine.ItemLengths.{ends_within};
 ghost use Rattle.zone_text.specs.Machine.Spans.{AreUnits, IsLostBy, IsSeen, IsSpan, IsSeenComment, IsTokenSpan, ItemIs};
 
-use crate::comment::comment_len;
 use crate::items::{Extent, plain_len};
+use crate::until::len_until;
 use zone_name::escape_at;
 use zone_rdata::Item;
 
@@ -95,7 +95,7 @@ fn comment_span(note: &[u8], seen: usize) -> Span
 {
     let known = seen.saturating_sub(1);
     let (_, ahead) = note.split_at(known);
-    let len = known + comment_len(ahead);
+    let len = known + len_until(ahead, b'\n', b'\n');
     if len < note.len() {
         Span::Whole(len + 1)
     } else {

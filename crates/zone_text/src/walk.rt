@@ -12,7 +12,6 @@ ghost use Rattle.zone_text.specs.Tokens.{is_blank};
 
 use crate::feeds::line_feeds;
 use crate::items::keep;
-use crate::row::{len_to_blank, row_len};
 use crate::stops::Stops;
 use crate::token::{Span, item_of, token_span};
 use std::alloc::{AllocError, Global};
@@ -290,25 +289,6 @@ pub(crate) fn walk<'t>(
     walk_on(octets, At::beginning(), known, true, items)
 }
 
-/// Where a walk that keeps no items goes on, past the bare items in a row of which the ends are
-/// there.
-fn past_row(octets: &[u8], at: At) -> At
-    requires { StandsAt octets.now at false [] }
-    ensures { StandsAt octets.now result false [] }
-{
-    let (_, rest) = octets.split_at(at.start);
-    let (row, _) = rest.split_at(row_len(rest));
-    let len = len_to_blank(row);
-    if len == 0 {
-        return at;
-    }
-    At {
-        start: at.start + len,
-        seen: at.start + len,
-        ..at
-    }
-}
-
 /// Walks on over the octets of an entry from where fewer of them left it. No items are kept. Of the
 /// token that was open there no octet is looked at again that was seen, until it is whole.
 #[inline(never)]
@@ -324,10 +304,8 @@ pub(crate) fn walk_more(alloc: Global, octets: &[u8], at: At) -> Result<Reached,
         })),
         Span::Lost(len) => Ok(Reached::LostEscape(at.start + len)),
         Span::Whole(_) => {
-            let from = past_row(octets, at);
-            let (_, ahead) = octets.split_at(from.start);
-            let mut known = Stops::unseen(ahead);
-            walk_on(octets, from, &mut known, false, &mut Vec::new(alloc))
+            let mut known = Stops::unseen(rest);
+            walk_on(octets, at, &mut known, false, &mut Vec::new(alloc))
         }
     }
 }

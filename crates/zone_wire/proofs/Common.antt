@@ -59,7 +59,7 @@ pub use Rattle.zone_wire.specs.Machine.Feeding.{Follow, Going, IsCut}
 pub use Rattle.zone_wire.specs.Machine.Finding.{Outcome, Says, after_label, after_pointer, named, refused}
 unfoldable pub use Rattle.zone_wire.specs.Machine.Finding.{outcome}
 pub use Rattle.zone_wire.specs.Machine.Parsing.{AreRecordsAt, HasRecordsFrom, IsParsed, name_end_of, parsed, part_end_of, raw_from, run_end_of, sections_or_none}
-pub use Rattle.zone_wire.specs.Machine.Runs.{IsNamed, IsRun}
+pub use Rattle.zone_wire.specs.Machine.Room.{IsRoom, IsRun}
 pub use Rattle.zone_wire.specs.Machine.Sections.{after_header, and_then, at_offset, each_from, inside, question_at, questions_from, record_at, records_from, to_the_end, unless_faulted}
 unfoldable pub use Rattle.zone_wire.specs.Machine.Sections.{header_fault, sections_of}
 pub use Rattle.zone_wire.specs.Machine.Spot.{spot_of}

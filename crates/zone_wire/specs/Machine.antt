@@ -6,7 +6,6 @@ pub mod Feeding
 pub mod Finding
 pub mod Parsing
 pub mod Room
-pub mod Runs
 pub mod Spot
 pub mod Sections
 pub mod Transferring

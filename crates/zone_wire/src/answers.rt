@@ -6,9 +6,9 @@ ghost use Rattle.zone_wire.specs.View.{raw_at, raw_with};
 use crate::header::RECORD_HEAD_LEN;
 use crate::labels::LabelRoom;
 use crate::lent::RawRrRef;
+use crate::name::read_name;
 use crate::number::{u16_at, u32_at};
 use crate::raw::{RawFields, RawRr};
-use crate::runs::read_labels;
 use std::marker::Model;
 
 /// The answers of a message that are left, in order (RFC 1035 4.1). Contracts see their
@@ -78,8 +78,8 @@ fn record_at<'m, 'r>(
     ensures octets { result.octets ≡ message.now }
     ensures at { IsRecordAt message.now offset result.at }
 {
-    match read_labels(message, offset, labels) {
-        Ok(end) => RawRrRef {
+    match read_name(message, offset, labels) {
+        Ok((end, _)) => RawRrRef {
             owner: labels.lend(),
             fields: fields_after(message, offset, end),
         },

@@ -3,8 +3,8 @@ ghost use Rattle.std.specs.Prelude.{ℕ, ◌+◌, ◌<◌, ◌≤◌, length, sl
 ghost use Rattle.zone_rdata.specs.Limits.{longest_data};
 
 use crate::labels::LabelRoom;
+use crate::name::read_name;
 use crate::number::{u16_at, u32_at};
-use crate::runs::read_labels;
 use zone_rdata::Cause;
 
 /// What is left to read of the data of a record. After an error no more is read.
@@ -88,10 +88,10 @@ impl<'m> Cursor<'m> {
         ensures found { OnOk result (Reads self.old self.new Name (name labels.new)) }
         ensures fault { IfErr result (λ c. next_value self.old Name ≡ Err (fault_for c)) }
     {
-        match read_labels(self.message, self.at, labels) {
-            Err(cause) => Err(cause),
-            Ok(past) if past > self.end => Err(Cause::BadRdata),
-            Ok(past) => {
+        match read_name(self.message, self.at, labels) {
+            Err((cause, _)) => Err(cause),
+            Ok((past, _)) if past > self.end => Err(Cause::BadRdata),
+            Ok((past, _)) => {
                 self.at = past;
                 Ok(())
             }

@@ -11,7 +11,7 @@ use crate::cursor::Cursor;
 use crate::labels::LabelRoom;
 use crate::lent::RawRrRef;
 use zone_name::laws::are_octets;
-use zone_rdata::{Cause, Class, Field, Kind, Layout, NarrowFailing, Part, RdataBuilder, RdataRef};
+use zone_rdata::{Cause, Class, Field, Kind, Layout, NarrowFailing, Part, Rdata, RdataBuilder};
 
 /// Pushes the strings that are left, each after its length: one at least.
 #[tactic(auto, using(crate::proofs::Fields::DataReading::strings_pushed))]
@@ -113,15 +113,15 @@ impl<'m, 'r> RawRrRef<'m, 'r> {
         }
     }
 
-    /// The record's data, made by a builder and borrowed from it: the parts that it had go. The
-    /// room is for the labels of names in the data.
-    pub(crate) fn rdata<'b>(
+    /// The record's data, in the memory of other data. The room is for the labels of names in it.
+    #[inline(always)]
+    pub(crate) fn rdata(
         &self,
         class: Class,
         kind: Kind,
         labels: &mut LabelRoom,
-        builder: &'b mut RdataBuilder,
-    ) -> Result<RdataRef<'b>, NarrowFailing>
+        other: Rdata,
+    ) -> Result<Rdata, NarrowFailing>
         requires class { class ≡ self.now.at.class }
         requires kind { kind ≡ self.now.at.kind }
         ensures class { IfOk result (λ d. d.class ≡ class) }
@@ -130,11 +130,11 @@ impl<'m, 'r> RawRrRef<'m, 'r> {
         ensures fault { IfErr result (IfFault (DataFault self.now.octets self.now.at)) }
     {
         are_octets(self.fields.message);
-        builder.restart(class, kind);
-        self.push_data(class, kind, labels, builder)?;
-        match builder.whole() {
-            Some(rdata) => Ok(rdata),
-            None => Err(NarrowFailing::of(Cause::BadRdata)),
+        let mut builder = RdataBuilder::reusing(other, class, kind);
+        self.push_data(class, kind, labels, &mut builder)?;
+        match builder.finish() {
+            Ok(rdata) => Ok(rdata),
+            Err(_) => Err(NarrowFailing::of(Cause::BadRdata)),
         }
     }
 }

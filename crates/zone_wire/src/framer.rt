@@ -10,13 +10,10 @@ ghost use Rattle.zone_wire.specs.Transfer.{frame};
 
 use crate::transfer::Transfer;
 use std::alloc::{AllocError, Global};
-use zone_rdata::{Class, Fault, Kind, Place, RdataBuilder};
+use zone_rdata::{Fault, Place, Rdata};
 
 /// The octets of a frame's length.
 const LENGTH_LEN: usize = 2;
-
-/// The type of the first record, for whose data there is a builder (RFC 5936 2.2).
-const SOA: u16 = 6;
 
 /// The messages of the frames that came whole, and the octets after them.
 #[derive(Drop)]
@@ -24,8 +21,8 @@ pub(crate) struct Framer {
     pub(crate) transfer: Transfer,
     /// The octets of the unfinished frame. No other input is kept.
     pub(crate) unfinished: Vec<u8>,
-    /// Where the data of one record after another is made.
-    builder: RdataBuilder,
+    /// In its memory the data of one record after another is made.
+    rdata: Rdata,
 }
 
 impl Framer {
@@ -40,7 +37,7 @@ impl Framer {
         Framer {
             transfer: Transfer::new(alloc),
             unfinished: Vec::new(alloc),
-            builder: RdataBuilder::new(alloc, Class::internet(), Kind::of_judged(SOA)),
+            rdata: Rdata::empty(alloc),
         }
     }
 
@@ -94,13 +91,13 @@ impl Framer {
             }
             Some(end) if self.unfinished.is_empty() => {
                 let message = message_of(&octets[..end]);
-                self.transfer.read(message, &mut self.builder)?;
+                self.transfer.read(message, &mut self.rdata)?;
                 Ok(end)
             }
             Some(end) => {
                 self.unfinished.extend_from_slice(&octets[..end])?;
                 let message = message_of(self.unfinished.as_slice());
-                self.transfer.read(message, &mut self.builder)?;
+                self.transfer.read(message, &mut self.rdata)?;
                 self.unfinished.clear();
                 Ok(end)
             }

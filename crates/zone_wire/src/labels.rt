@@ -1,14 +1,14 @@
 //! The labels of a name of a message as they are read, 16 octets at a time.
-ghost use Rattle.std.specs.Prelude.{◌≡◌, ◌+◌, ◌-◌, ◌≤◌, ◌++◌, [], false, drop, length, map, take, IsTrue};
+ghost use Rattle.std.specs.Prelude.{◌≡◌, ◌+◌, ◌-◌, ◌<◌, ◌≤◌, ◌++◌, [], drop, length, map, take};
 ghost use Rattle.std.specs.List.{flat_map};
 ghost use Rattle.std.specs.Simd.Lanes.{chunk, put_chunk};
-ghost use Rattle.zone_name.specs.Name.{folded, folded_octet, labels_of, with_length, IsName};
-ghost use Rattle.zone_wire.specs.Machine.Runs.{IsRun};
+ghost use Rattle.zone_name.specs.Name.{folded, folded_octet, labels_of, with_length};
+ghost use Rattle.zone_wire.specs.Machine.Room.{IsRun};
 ghost use Rattle.zone_wire.specs.Transfer.{octets_between};
 
 use std::marker::Model;
 use std::simd::prelude::*;
-use zone_name::{MAX_NAME_LEN, Name, NameRef};
+use zone_name::{Name, NameRef};
 
 /// How many octets are copied at a time.
 const LANES: usize = 16;
@@ -56,23 +56,17 @@ impl LabelRoom {
         self.len = 0;
     }
 
-    /// Appends the labels that stand in a message from an offset to another, and tells whether they
-    /// fit in a name with those before them. If not, the room is unchanged.
-    pub(crate) fn push(&mut self, message: &[u8], start: usize, past: usize) -> bool
-        requires { IsRun message.now start past }
-        ensures labels { IsTrue result → self.new
+    /// Appends the labels that stand in a message from an offset to another, which fit in a name
+    /// with those before them.
+    pub(crate) fn push(&mut self, message: &[u8], start: usize, past: usize)
+        requires run { IsRun message.now start past }
+        requires fits { length (flat_map with_length self.old) + (past - start) < 255 }
+        ensures { self.new
             ≡ self.old ++ folded (labels_of (octets_between message.now start past)) }
-        ensures name { IsTrue result → IsName self.new }
-        ensures full { result ≡ false
-            → 255 ≤ length (flat_map with_length self.old) + (past - start) }
     {
         let size = past - start;
-        if size >= MAX_NAME_LEN - self.len {
-            return false;
-        }
         copy_folded(message, start, size, &mut self.octets, self.len);
         self.len += size;
-        true
     }
 
     /// The name of the labels, borrowed.

@@ -16,7 +16,6 @@ mod name;
 mod number;
 mod raw;
 mod record;
-mod runs;
 mod spot;
 mod structure;
 mod ticks;

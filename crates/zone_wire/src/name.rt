@@ -56,12 +56,14 @@ fn walked(message: &[u8], offset: usize) -> Result<Decoded, (Fault, u16)>
     }
 }
 
-/// Puts the labels of the name at an offset into a room, in place of those there, place by place,
-/// and gives the offset after the name and the steps of the walk.
+/// Puts the labels of the name at an offset into a room, in place of those there, and gives the
+/// offset after the name and the steps of the walk. Labels that stand one after another are put
+/// there at once, when the walk comes to what ends them.
 ///
 /// # Errors
 ///
-/// As `name_at`; the room then has the labels before the fault.
+/// As `name_at`; the room then has the labels before the last pointer.
+#[inline(always)]
 #[tactic(auto, using(crate::proofs::Names::RunLaws::name_is_walked))]
 pub(crate) fn read_name(
     message: &[u8],
@@ -78,15 +80,13 @@ pub(crate) fn read_name(
         match step_at(message, spot, &mut ticks) {
             Standing::Outside => return Err((Cause::ShortMessage, ticks.count())),
             Standing::Bad(cause) => return Err((cause, ticks.count())),
-            Standing::Root => return Ok((end.unwrap_or(spot.offset + 1), ticks.count())),
-            Standing::Label(size) => {
-                let past = spot.offset + 1 + size;
-                if !labels.push(message, spot.offset, past) {
-                    unreachable!();
-                }
-                spot = spot.past_label(size);
+            Standing::Root => {
+                labels.push(message, spot.bound, spot.offset);
+                return Ok((end.unwrap_or(spot.offset + 1), ticks.count()));
             }
+            Standing::Label(size) => spot = spot.past_label(size),
             Standing::Pointer(target) => {
+                labels.push(message, spot.bound, spot.offset);
                 end = Some(end.unwrap_or(spot.offset + 2));
                 spot = spot.past_pointer(target);
             }

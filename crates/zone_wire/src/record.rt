@@ -11,7 +11,7 @@ use crate::lent::RawRrRef;
 use crate::raw::RawRr;
 use std::alloc::Global;
 use zone_name::laws::are_octets;
-use zone_rdata::{Cause, Class, Failing, Kind, MAX_TTL, NarrowFailing, RdataBuilder, Rr, RrRef};
+use zone_rdata::{Cause, Class, Failing, Kind, MAX_TTL, NarrowFailing, Rdata, Rr};
 
 /// The types whose data may hold compressed names and isn't read: MD, MF, MB, MG, MR and MINFO (RFC
 /// 1035 3.3), and RP, AFSDB, RT, SIG, PX and NXT (RFC 3597 4).
@@ -72,10 +72,9 @@ impl<'m, 'r> RawRrRef<'m, 'r> {
         are_octets(self.fields.message);
         let (class, kind) = self.class_and_kind()?;
         let mut labels = LabelRoom::new();
-        let mut builder = RdataBuilder::new(alloc, class, kind);
-        let rdata = self.rdata(class, kind, &mut labels, &mut builder)?;
-        let rr = RrRef::of_parts(self.owner.copy(), counted_ttl(self.fields.ttl), rdata);
-        Ok(rr.to_rr(alloc)?)
+        let rdata = self.rdata(class, kind, &mut labels, Rdata::empty(alloc))?;
+        let owner = self.owner.to_name();
+        Ok(Rr::of_parts(owner, counted_ttl(self.fields.ttl), rdata))
     }
 }
 

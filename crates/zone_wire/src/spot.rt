@@ -124,19 +124,6 @@ impl Spot {
         }
     }
 
-    /// The spot after a run of labels, as a walk comes to it that asks for no label more.
-    pub(crate) fn after_run(start: usize, past: usize, pointers: usize) -> Spot
-        ensures { spot_of result
-            ≡ record { offset = past; bound = start; pointers = pointers; octets = 0 } }
-    {
-        Spot {
-            offset: past,
-            bound: start,
-            pointers,
-            octets: 0,
-        }
-    }
-
     /// The spot after a label of this many octets.
     pub(crate) fn past_label(self, size: usize) -> Spot
         requires offset { self.offset + 1 + size < 2 ^ 64 }

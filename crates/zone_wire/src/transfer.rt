@@ -2,7 +2,6 @@
 ghost use Rattle.std.specs.Prelude.{◌≡◌, ◌+◌, ◌<◌, ◌≤◌, ◌^◌, [], ◌∷◌, ◌++◌, length, ◌↔◌, List, Some, None, IfErr, IsTrue, MatchOption, OnErr, OnOk, ⊤, option_map};
 ghost use Rattle.zone_rdata.specs.Cause.{fault_for};
 ghost use Rattle.zone_rdata.specs.Fault.{IfFault};
-ghost use Rattle.zone_rdata.specs.Lent.{record_of};
 ghost use Rattle.zone_rdata.specs.Record.{Record};
 ghost use Rattle.zone_rdata.specs.declared.fault.Place.TheVariants.{Message as in_message};
 ghost use Rattle.zone_rdata.specs.declared.record.Placed.{Placed};
@@ -18,8 +17,9 @@ use crate::lent::RawRrRef;
 use crate::message::Message;
 use crate::record::counted_ttl;
 use std::alloc::{AllocError, Global};
+use std::mem::replace;
 use zone_name::Name;
-use zone_rdata::{Cause, NarrowFailing, PendingRecords, Place, RdataBuilder, Reading, Rr, RrRef};
+use zone_rdata::{Cause, NarrowFailing, PendingRecords, Place, Rdata, Reading, Rr, RrRef};
 
 /// The number of the query type AXFR, of a whole zone (RFC 5936 2.1.2).
 const AXFR: u16 = 252;
@@ -73,14 +73,10 @@ impl Transfer {
         decided.into_reading()
     }
 
-    /// Takes the next message. Nothing is taken after a fault in it. The builder is for the data of
-    /// its records.
+    /// Takes the next message. Nothing is taken after a fault in it. The data gives its memory up to
+    /// that of the records.
     #[tactic(auto, using(crate::proofs::Transfers::Progress::read_next))]
-    pub(crate) fn read(
-        &mut self,
-        octets: &[u8],
-        builder: &mut RdataBuilder,
-    ) -> Result<(), AllocError>
+    pub(crate) fn read(&mut self, octets: &[u8], rdata: &mut Rdata) -> Result<(), AllocError>
         requires going { self.old.decided.ending ≡ None }
         requires fits { self.old.messages + 1 < 2 ^ 64 }
         requires short { length octets.now ≤ longest_message }
@@ -89,7 +85,7 @@ impl Transfer {
         ensures count { OnOk result (self.new.messages ≤ self.old.messages + 1) }
     {
         let number = self.messages + 1;
-        match self.take_message(octets, builder) {
+        match self.take_message(octets, rdata) {
             Ok(()) => Ok(()),
             Err((failing, offset)) => {
                 let place = Place::Message(number, offset);
@@ -103,7 +99,7 @@ impl Transfer {
     fn take_message(
         &mut self,
         octets: &[u8],
-        builder: &mut RdataBuilder,
+        rdata: &mut Rdata,
     ) -> Result<(), (NarrowFailing, usize)>
         requires fits { self.old.messages + 1 < 2 ^ 64 }
         requires short { length octets.now ≤ longest_message }
@@ -117,7 +113,7 @@ impl Transfer {
             Err((cause, offset)) => return Err((NarrowFailing::of(cause), offset)),
         };
         match self.take_head(&message) {
-            Ok(()) => self.take_answers(&message, builder),
+            Ok(()) => self.take_answers(&message, rdata),
             Err((cause, offset)) => Err((NarrowFailing::of(cause), offset)),
         }
     }
@@ -165,7 +161,7 @@ impl Transfer {
     fn take_answers(
         &mut self,
         message: &Message<'_>,
-        builder: &mut RdataBuilder,
+        rdata: &mut Rdata,
     ) -> Result<(), (NarrowFailing, usize)>
         ensures taken { (questions : List QuestionAt) (placed : List Placed)
             → Among questions placed self.old
@@ -178,7 +174,7 @@ impl Transfer {
         let (mut owner, mut labels) = (LabelRoom::new(), LabelRoom::new());
         while let Some(answer) = answers.next_in(&mut owner) {
             let offset = answer.offset();
-            match self.take_answer(&answer, &mut labels, builder) {
+            match self.take_answer(&answer, &mut labels, rdata) {
                 Ok(()) => {}
                 Err(failing) => return Err((failing, offset)),
             }
@@ -186,14 +182,14 @@ impl Transfer {
         Ok(())
     }
 
-    /// Takes the record that an answer states. The builder is for its data, and the room for the
-    /// labels of names in that.
+    /// Takes the record that an answer states. Its data takes the memory of `rdata`, and the room is
+    /// for the labels of names in it.
     #[tactic(auto, using(crate::proofs::Records::Answering::answer_not_taken))]
     fn take_answer(
         &mut self,
         answer: &RawRrRef<'_, '_>,
         labels: &mut LabelRoom,
-        builder: &mut RdataBuilder,
+        rdata: &mut Rdata,
     ) -> Result<(), NarrowFailing>
         ensures taken { OnOk result ((questions : List QuestionAt) (placed : List Placed)
             → Among questions placed self.old
@@ -210,12 +206,19 @@ impl Transfer {
             return self.take_soa(answer);
         }
         let (class, kind) = answer.class_and_kind()?;
-        let rdata = answer.rdata(class, kind, labels, builder)?;
-        let rr = RrRef::of_parts(answer.owner.copy(), counted_ttl(answer.fields.ttl), rdata);
+        let memory = replace(rdata, Rdata::empty(self.alloc));
+        *rdata = answer.rdata(class, kind, labels, memory)?;
+        let ttl = counted_ttl(answer.fields.ttl);
+        // That it is a record is told before it is refused.
+        RrRef::of_parts(answer.owner.copy(), ttl, rdata.lend()).known();
         if self.closed {
             return Err(NarrowFailing::of(Cause::AfterClosing));
         }
-        self.hand_on(&rr, answer.offset())?;
+        let owner = answer.owner.copy();
+        let place = Place::Message(self.messages, answer.offset());
+        self.decided
+            .placed
+            .push_exchanged(owner, ttl, rdata, place)?;
         Ok(())
     }
 
@@ -256,22 +259,12 @@ impl Transfer {
             self.closed = true;
             return Ok(());
         }
-        self.hand_on(&rr.lend(), offset)?;
+        let place = Place::Message(self.messages, offset);
+        self.decided.placed.push(&rr.lend(), place)?;
         if is_opening {
             self.open(rr);
         }
         Ok(())
-    }
-
-    /// Appends a record to those that are left to hand on.
-    fn hand_on(&mut self, rr: &RrRef<'_>, offset: usize) -> Result<(), AllocError>
-        ensures items { OnOk result (self.new.decided.placed ≡ self.old.decided.placed
-            ++ record { rr = record_of rr.now; place = in_message self.old.messages offset } ∷ []) }
-        ensures others { self.new ≡ record self.old { decided = self.new.decided } }
-        ensures ending { self.new.decided.ending ≡ self.old.decided.ending }
-    {
-        let place = Place::Message(self.messages, offset);
-        self.decided.placed.push(rr, place)
     }
 
     /// Takes the opening SOA, which fixes the zone if no question does.

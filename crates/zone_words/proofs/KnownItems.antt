@@ -204,6 +204,20 @@ gap_kept octets rest old new last passes tokens are =
     let at = passes tokens are in
     sym (append-nil new) ∙ ap (λ t. new ++ text (filter stays t)) (sym (none_before at.more (last at.more at.are))) ∙ at.kept
 
+-- ---- a gap of one blank
+
+begins_blank : (octets rest : List ℕ) → octets ≡ 32 ∷ rest → BeginsBlank octets true
+begins_blank octets rest first c after e = ap is_blank (first_same 32 c rest after (sym first ∙ e))
+
+past_blank : (octets rest old : List ℕ) → octets ≡ 32 ∷ rest → PassesTo octets rest old old
+past_blank octets rest old first = passed_blank octets octets rest old old (omega (arith, ap length first)) (begins_blank octets rest first) (one_between octets rest 32 first refl) (passed_none octets old)
+
+pub one_blank_passed : (octets rest after : List ℕ) (c : ℕ) → octets ≡ 32 ∷ rest → rest ≡ c ∷ after → is_between c ≡ false → c ≢ 59 → PassesGap octets rest
+one_blank_passed octets rest after c first next none other = gap_passed octets rest [] [] (item_first rest after c next none other) (past_blank octets rest [] first)
+
+pub one_blank_kept : (octets rest after : List ℕ) (c : ℕ) → octets ≡ 32 ∷ rest → rest ≡ c ∷ after → is_between c ≡ false → c ≢ 59 → (old : List ℕ) → KeepsGap octets old old
+one_blank_kept octets rest after c first next none other old = gap_kept octets rest old old (item_first rest after c next none other) (past_blank octets rest old first)
+
 -- the same without what stays
 pub record IsCome (rest : List ℕ) (tokens : List Token) : Type 0 where
   pub more : List Token

@@ -46,58 +46,73 @@ pub same_number : (word : List ℕ) (n : ℕ) (f : FurtherType) → IsKindWord w
 unfolding is_number own_numbers unlike is_same
 same_number word n f kind further = word_once registered_types (codes "TYPE") refl refl word n f.number (registered_word type_names refl word n kind) (registered_further word f.number further.named)
 
--- ---- the registered types in two parts, of which each has its words
+-- ---- the registered types in three parts, of which each has its words
 
 abbrev pub early_types : List Named
 early_types = take 41 registered_types
 
-abbrev pub late_types : List Named
-late_types = drop 41 registered_types
+abbrev pub signed_types : List Named
+signed_types = take 10 (drop 41 registered_types)
 
-pub early_word : (word : List ℕ) (n : ℕ) → IsWordAmong early_types (codes "TYPE") word n → IsRegistered word n
-unfolding is_same
-early_word = registered_word early_types refl
-
-pub late_word : (word : List ℕ) (n : ℕ) → IsWordAmong late_types (codes "TYPE") word n → IsRegistered word n
-unfolding is_same
-late_word = registered_word late_types refl
+abbrev pub last_types : List Named
+last_types = drop 10 (drop 41 registered_types)
 
 abbrev is_in_a_part : ℕ → List ℕ → Bool
-is_in_a_part n name = is_same (mnemonic_among early_types n) name || is_same (mnemonic_among late_types n) name
+is_in_a_part n name = is_same (mnemonic_among early_types n) name || (is_same (mnemonic_among signed_types n) name || is_same (mnemonic_among last_types n) name)
 
 either : (a b : Bool) → (a || b) ≡ true → (a ≡ true) ⊎ (b ≡ true)
 either true b e = inl refl
 either false b e = inr e
 
-in_a_part : (n : ℕ) (name : List ℕ) → mnemonic_among registered_types n ≡ Some name → (mnemonic_among early_types n ≡ Some name) ⊎ (mnemonic_among late_types n ≡ Some name)
+in_a_part : (n : ℕ) (name : List ℕ) → mnemonic_among registered_types n ≡ Some name → (mnemonic_among early_types n ≡ Some name) ⊎ ((mnemonic_among signed_types n ≡ Some name) ⊎ (mnemonic_among last_types n ≡ Some name))
 unfolding is_same
 in_a_part n name row =
-    elim (either (is_same (mnemonic_among early_types n) name) (is_same (mnemonic_among late_types n) name) (each_mnemonic is_in_a_part registered_types refl n name row)) [
+    elim (either (is_same (mnemonic_among early_types n) name) (is_same (mnemonic_among signed_types n) name || is_same (mnemonic_among last_types n) name) (each_mnemonic is_in_a_part registered_types refl n name row)) [
       | inl e ↦ inl (the_same (mnemonic_among early_types n) name e)
-      | inr e ↦ inr (the_same (mnemonic_among late_types n) name e)
+      | inr others ↦ inr (elim (either (is_same (mnemonic_among signed_types n) name) (is_same (mnemonic_among last_types n) name) others) [
+        | inl e ↦ inl (the_same (mnemonic_among signed_types n) name e)
+        | inr e ↦ inr (the_same (mnemonic_among last_types n) name e)
+      ])
     ]
 
--- a word of neither part is that of no registered type
-pub in_neither : (word : List ℕ) → ((n : ℕ) → IsWordAmong early_types (codes "TYPE") word n → ⊥) → ((n : ℕ) → IsWordAmong late_types (codes "TYPE") word n → ⊥) → (n : ℕ) → IsRegistered word n → ⊥
-in_neither word early late n (by_number is) = early n (by_number is)
-in_neither word early late n (by_mnemonic is) =
+abbrev NotIn : List Named → List ℕ → Type 0
+NotIn rows word = (n : ℕ) → IsWordAmong rows (codes "TYPE") word n → ⊥
+
+-- a word of no part is that of no registered type
+in_none : (word : List ℕ) → NotIn early_types word → NotIn signed_types word → NotIn last_types word → (n : ℕ) → IsRegistered word n → ⊥
+in_none word early signed last n (by_number is) = early n (by_number is)
+in_none word early signed last n (by_mnemonic is) =
     elim (in_a_part n is.name is.row) [
       | inl row ↦ early n (by_mnemonic (record { name = is.name; row = row; same = is.same }))
-      | inr row ↦ late n (by_mnemonic (record { name = is.name; row = row; same = is.same }))
+      | inr others ↦ elim others [
+        | inl row ↦ signed n (by_mnemonic (record { name = is.name; row = row; same = is.same }))
+        | inr row ↦ last n (by_mnemonic (record { name = is.name; row = row; same = is.same }))
+      ]
     ]
 
 -- the rows of the code are those of a part
-pub late_found : (word : List ℕ) (n : ℕ) (rows : List Named) → rows ≡ late_types → IsCapped (IsWordAmong rows (codes "TYPE") word) n → IsCapped (IsRegistered word) n
-late_found word n rows is capped = (capped.0, (late_word word capped.0 (subst (λ r. IsWordAmong r (codes "TYPE") word capped.0) is capped.1.0), capped.1.1))
+found_there : (part : List Named) → AreRegistered part → (word : List ℕ) (n : ℕ) (rows : List Named) → rows ≡ part → IsCapped (IsWordAmong rows (codes "TYPE") word) n → IsCapped (IsRegistered word) n
+found_there part all word n rows is capped = (capped.0, (registered_word part all word capped.0 (subst (λ r. IsWordAmong r (codes "TYPE") word capped.0) is capped.1.0), capped.1.1))
 
-pub early_found : (word : List ℕ) (r : Option ℕ) (rows : List Named) → rows ≡ early_types → IfSome r (IsCapped (IsWordAmong rows (codes "TYPE") word)) → IfSome r (IsCapped (IsRegistered word))
-early_found word None rows is found = tt
-early_found word (Some n) rows is capped = (capped.0, (early_word word capped.0 (subst (λ r. IsWordAmong r (codes "TYPE") word capped.0) is capped.1.0), capped.1.1))
+pub early_found : (word : List ℕ) (n : ℕ) (rows : List Named) → rows ≡ early_types → IsCapped (IsWordAmong rows (codes "TYPE") word) n → IsCapped (IsRegistered word) n
+unfolding is_same
+early_found = found_there early_types refl
 
-pub found_in_neither : (word : List ℕ) (r : Option ℕ) (early late : List Named) → early ≡ early_types → late ≡ late_types → NothingIs (IsWordAmong late (codes "TYPE") word) → IfNone r (NothingIs (IsWordAmong early (codes "TYPE") word)) → IfNone r (NothingIs (IsRegistered word))
-found_in_neither word None early late e l none nothing =
-    in_neither word (λ n is. nothing n (subst (λ r. IsWordAmong r (codes "TYPE") word n) (sym e) is)) (λ n is. none n (subst (λ r. IsWordAmong r (codes "TYPE") word n) (sym l) is))
-found_in_neither word (Some n) early late e l none nothing = tt
+pub signed_found : (word : List ℕ) (n : ℕ) (rows : List Named) → rows ≡ signed_types → IsCapped (IsWordAmong rows (codes "TYPE") word) n → IsCapped (IsRegistered word) n
+unfolding is_same
+signed_found = found_there signed_types refl
+
+pub last_found : (word : List ℕ) (r : Option ℕ) (rows : List Named) → rows ≡ last_types → IfSome r (IsCapped (IsWordAmong rows (codes "TYPE") word)) → IfSome r (IsCapped (IsRegistered word))
+unfolding is_same
+last_found word None rows is found = tt
+last_found word (Some n) rows is found = found_there last_types refl word n rows is found
+
+abbrev none_there : (part rows : List Named) (word : List ℕ) → rows ≡ part → NothingIs (IsWordAmong rows (codes "TYPE") word) → NotIn part word
+none_there part rows word same none n is = none n (subst (λ r. IsWordAmong r (codes "TYPE") word n) (sym same) is)
+
+pub found_in_none : (word : List ℕ) (r : Option ℕ) (early signed last : List Named) → early ≡ early_types → signed ≡ signed_types → last ≡ last_types → NothingIs (IsWordAmong early (codes "TYPE") word) → NothingIs (IsWordAmong signed (codes "TYPE") word) → IfNone r (NothingIs (IsWordAmong last (codes "TYPE") word)) → IfNone r (NothingIs (IsRegistered word))
+found_in_none word None early signed last e s l no_early no_signed no_last = in_none word (none_there early_types early word e no_early) (none_there signed_types signed word s no_signed) (none_there last_types last word l no_last)
+found_in_none word (Some n) early signed last e s l no_early no_signed no_last = tt
 
 -- ---- no further type has a layout
 

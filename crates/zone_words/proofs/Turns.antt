@@ -1,6 +1,6 @@
 -- What becomes of an entry, from the record that was found in it.
 use Rattle.zone_words.proofs.Walks.{back_each, back_follow}
-use Rattle.zone_words.proofs.Common.{AddsTold, Anew, AreOnOneLine, AreTokensOf, Bool, Cuts, DataFails, Entry, FindsParts, FurtherType, IfNone, Inherited, IsCasedOrigin, IsFurtherRecord, IsFurtherUnder, IsFurtherWord, IsGeneric, IsInherited, IsMnemonic, IsOneOrNone, IsRefused, IsTrue, Item, Labels, LineFeedWithinQuotes, List, MatchOption, Named, NamesOrigin, None, NoneIsFurther, NothingIs, Option, Parts, RawItem, Refused, SaysAnew, Some, Statement, StatesData, Token, TokensFail, TooManyItems, TouchingItem, WordsFault, Written, [], anew, ap, arith, blank, both_ways, closing, codes, comment, count_by, directive, entry_of, false, filter, find, flat_map, flat_map-append, folded_label, further_names, further_of, further_types, get_or, if◌then◌else◌, in_generic_form, includes, inl, inr, is_blank, item_of, kept, length, length-append, length-map, line_feed, line_feeds_in, map, mnemonic_among, most_items, no_data, on_more_lines, opening, option_map, option_to_list, origin_items, owned, parts_after, parts_in, raw, refl, refused, refused_of, renamed, sets_origin, sets_ttl, slice_get, statement_by, statement_of, stays, subst, suc, sym, text, too_many, touching_items, true, unknown, unowned, written, written_text, zero, ℕ, ◌++◌, ◌+◌, ◌-◌, ◌<◌, ◌==◌, ◌↔◌, ◌∙◌, ◌∷◌, ◌≡◌, ◌≤◌}
+use Rattle.zone_words.proofs.Common.{AddsTold, AllByRecursion, Anew, AreOnOneLine, AreTokensOf, Bool, Cuts, DataFails, Entry, FindsParts, FurtherType, IfNone, Inherited, IsCasedOrigin, IsFurtherRecord, IsFurtherUnder, IsFurtherWord, IsGeneric, IsInherited, IsMnemonic, IsOneOrNone, IsRefused, IsToken, IsTrue, Item, Labels, LineFeedWithinQuotes, List, MatchOption, Named, NamesOrigin, None, NoneIsFurther, NothingIs, Option, Parts, RawItem, Refused, SaysAnew, Some, Statement, StatesData, Token, TokensFail, TooManyItems, TouchingItem, WordsFault, Written, [], anew, ap, arith, blank, both_ways, closing, codes, comment, count_by, directive, entry_of, false, filter, find, flat_map, flat_map-append, folded_label, further_names, further_of, further_types, get_or, if◌then◌else◌, in_generic_form, includes, inl, inr, is_blank, item_of, kept, length, length-append, length-map, line_feed, map, mnemonic_among, most_items, no_data, on_more_lines, opening, option_map, option_to_list, origin_items, owned, parts_after, parts_in, raw, refl, refused, refused_of, renamed, sets_origin, sets_ttl, slice_get, statement_by, statement_of, stays, subst, suc, sym, text, too_many, touching_items, true, unknown, unowned, written, written_text, zero, ℕ, ◌++◌, ◌+◌, ◌-◌, ◌<◌, ◌==◌, ◌↔◌, ◌∙◌, ◌∷◌, ◌≡◌, ◌≤◌}
 use Rattle.zone_rdata.specs.Item.{bare, quoted}
 use Rattle.zone_rdata.proofs.Items.LeftOut.{are_many}
 use Rattle.zone_text.proofs.Entries.Kept.{all_few, few_kept}
@@ -9,6 +9,8 @@ use Rattle.zone_text.specs.Kept.{AreKept}
 use Rattle.zone_text.specs.Statements.{no_items}
 use Rattle.zone_text.specs.Tokens as tokens
 use Rattle.zone_words.proofs.FurtherWords.{further_word_once}
+use Rattle.zone_words.proofs.KeptEntries.{bare_feedless}
+use Rattle.zone_words.specs.Machine.Further.{QuotesAreOnOneLine, quoted_feeds}
 use Rattle.zone_words.proofs.KeptRecords.{AlikeForms, kept_forms, leaves_too, none_by, record_there}
 use Rattle.zone_words.specs.DataItem.{items_of}
 use Rattle.zone_words.specs.Entry.{in_words}
@@ -327,13 +329,26 @@ say_there origin before line all_tokens found kept_items above around a it says 
   say = record { word = a.units; split = a.whole; says = says };
 }
 
+-- ---- bare items have no line feed
+
+pub quotes_too : (items : List RawItem) → AreOnOneLine items → QuotesAreOnOneLine items
+quotes_too [] one = tt
+quotes_too (bare t ∷ items) one = (refl, quotes_too items one.1)
+quotes_too (quoted t ∷ items) one = (one.0, quotes_too items one.1)
+
+all_too : (b : Bool) (all : List Token) → AllByRecursion IsToken all → QuotesAreOnOneLine (items_of (touching_items b all)) → AreOnOneLine (items_of (touching_items b all))
+all_too b [] each one = tt
+all_too b (tokens.bare units ∷ all) each one = (bare_feedless units each.0, all_too true all each.1 one.1)
+all_too b (tokens.quoted units ∷ all) each one = (one.0, all_too true all each.1 one.1)
+all_too b (p ∷ all) each one = all_too false all each.1 one
+
 -- a mnemonic before the generic form
-pub renamed_there : (octets : List ℕ) (origin : Labels) (before : List Entry) (line : ℕ) (all_tokens : List Token) (found : FurtherRecord) (kept_items : List RawItem) (above : Labels) (around : Around) → Cuts octets all_tokens → AreOfRecord origin before line all_tokens found kept_items above → length kept_items < most_items → StandsBeside octets kept_items found around → IsGeneric (map raw found.items.now) → folded_label found.word.now ≡ folded_label found.further.now.mnemonic.now → AreOnOneLine (map raw found.items.now) → SayAround origin before line all_tokens around (renamed around.number)
+pub renamed_there : (octets : List ℕ) (origin : Labels) (before : List Entry) (line : ℕ) (all_tokens : List Token) (found : FurtherRecord) (kept_items : List RawItem) (above : Labels) (around : Around) → Cuts octets all_tokens → AreOfRecord origin before line all_tokens found kept_items above → length kept_items < most_items → StandsBeside octets kept_items found around → IsGeneric (map raw found.items.now) → folded_label found.word.now ≡ folded_label found.further.now.mnemonic.now → QuotesAreOnOneLine (map raw found.items.now) → SayAround origin before line all_tokens around (renamed around.number)
 renamed_there octets origin before line all_tokens found kept_items above around cut of few stands generic same one_line =
     let a = around_there octets origin before line all_tokens found kept_items above around cut of few stands in
     let f : FurtherType = further_of found.further.now in
     subst (λ k. SayAround origin before line all_tokens around (renamed k)) (sym stands.number)
-    (say_there origin before line all_tokens found kept_items above around a _ (in_generic_form f above a.under a.few (subst AreOnOneLine a.items one_line) (subst IsGeneric a.items generic)
+    (say_there origin before line all_tokens found kept_items above around a _ (in_generic_form f above a.under a.few (all_too true a.back a.after_are.each (subst QuotesAreOnOneLine a.items one_line)) (subst IsGeneric a.items generic)
     (record { name = f.mnemonic; row = own_mnemonic (written_text a.units) f a.under.stated.named; same = ap folded_label (sym a.word) ∙ same })))
 
 -- words that state octets
@@ -343,7 +358,7 @@ stated_there octets origin before line all_tokens found kept_items above around 
     let a = around_there octets origin before line all_tokens found kept_items above around cut of words.few stands in
     let f : FurtherType = further_of found.further.now in
     subst (λ k. (said : SayAround origin before line all_tokens around (in_octets k stated.octets.items)) × (stated.staying.items ≡ text (filter stays said.back))) (sym stands.number) (
-      say_there origin before line all_tokens found kept_items above around a _ (in_words f above stated.octets.items a.under a.few (subst AreOnOneLine a.items words.on_one_line) (λ g. words.in_words (subst IsGeneric (sym a.items) g))
+      say_there origin before line all_tokens found kept_items above around a _ (in_words f above stated.octets.items a.under a.few (all_too true a.back a.after_are.each (subst QuotesAreOnOneLine a.items words.on_one_line)) (λ g. words.in_words (subst IsGeneric (sym a.items) g))
           (subst (λ d. StatesData above (fields_in f.fields d) (in_order f.fields) d stated.octets.items) (given_are a.back a.after_are a.items) states)),
       stays_are a.back a.after_are a.items,
     )
@@ -353,7 +368,7 @@ pub fails_there : (octets : List ℕ) (origin : Labels) (before : List Entry) (l
 fails_there octets origin before line all_tokens found kept_items above around given_items field fault it cut of words stands given_are fails told_is =
     let a = around_there octets origin before line all_tokens found kept_items above around cut of words.few stands in
     let f : FurtherType = further_of found.further.now in
-    let bad = no_data f above field fault a.under (λ g. words.in_words (subst IsGeneric (sym a.items) g)) a.few (subst AreOnOneLine a.items words.on_one_line)
+    let bad = no_data f above field fault a.under (λ g. words.in_words (subst IsGeneric (sym a.items) g)) a.few (all_too true a.back a.after_are.each (subst QuotesAreOnOneLine a.items words.on_one_line))
     (subst (λ d. DataFails above (fields_in f.fields d) (in_order f.fields) d field fault) (given_are a.back a.after_are a.items) fails) in
     subst (λ (r : Refused). TokensFail origin before line all_tokens r) (sym told_is) (record { front = a.front; back = a.back; word = a.units; split = a.whole; fails = bad })
 
@@ -371,7 +386,7 @@ many_fail origin before line all_tokens found kept_items above it of many words 
       fails = too_many (further_of found.further.now) above under (λ g. words (of.is.generic.0 (subst IsGeneric (sym at.items) g))) (of.many many);
     })
 
-pub lines_fail : (origin : Labels) (before : List Entry) (line : ℕ) (all_tokens : List Token) (found : FurtherRecord) (kept_items : List RawItem) (above : Labels) (it : Refused) → AreOfRecord origin before line all_tokens found kept_items above → length kept_items < most_items → (IsGeneric (map raw found.items.now) → ⊥) → (AreOnOneLine (map raw found.items.now) → ⊥) → it ≡ record { line = line; mnemonic = found.further.now.mnemonic.now; field = codes "data"; fault = LineFeedWithinQuotes } → TokensFail origin before line all_tokens it
+pub lines_fail : (origin : Labels) (before : List Entry) (line : ℕ) (all_tokens : List Token) (found : FurtherRecord) (kept_items : List RawItem) (above : Labels) (it : Refused) → AreOfRecord origin before line all_tokens found kept_items above → length kept_items < most_items → (IsGeneric (map raw found.items.now) → ⊥) → (QuotesAreOnOneLine (map raw found.items.now) → ⊥) → it ≡ record { line = line; mnemonic = found.further.now.mnemonic.now; field = codes "data"; fault = LineFeedWithinQuotes } → TokensFail origin before line all_tokens it
 lines_fail origin before line all_tokens found kept_items above it of few words lines told_is =
     let at = split_there before line all_tokens found.word.now of.is.all (further_of found.further.now) of.is.is in
     let under = under_split origin before line all_tokens found kept_items above of at in
@@ -384,7 +399,7 @@ lines_fail origin before line all_tokens found kept_items above it of few words 
       back = at.back;
       word = at.units;
       split = at.whole;
-      fails = on_more_lines (further_of found.further.now) above under (λ g. words (subst IsGeneric (sym same) g)) less (λ one. lines (subst AreOnOneLine (sym same) one));
+      fails = on_more_lines (further_of found.further.now) above under (λ g. words (subst IsGeneric (sym same) g)) less (λ one. lines (quotes_too (map raw found.items.now) (subst AreOnOneLine (sym same) one)));
     })
 
 -- ---- what is written
@@ -421,15 +436,15 @@ none_weaker P Q (Some x) weaker p = tt
 
 -- ---- no line feed in an item
 
-at_item : (items : List Item) (k : ℕ) (d : Item) → k < length items → AreOnOneLine (map raw items) → line_feeds_in (raw (get_or items k d)) ≡ 0
+at_item : (items : List Item) (k : ℕ) (d : Item) → k < length items → QuotesAreOnOneLine (map raw items) → quoted_feeds (raw (get_or items k d)) ≡ 0
 at_item [] k d less all = absurd (omega (arith, less))
 at_item (item ∷ items) zero d less all = all.0
 at_item (item ∷ items) (suc k) d less all = at_item items k d (omega (arith, less)) all.1
 
-pub line_lost : (items : List Item) (k : ℕ) (item d : Item) (is : Bool) → k < length items → item ≡ get_or items k d → IsTrue is ↔ (line_feeds_in (raw item) ≡ 0) → is ≡ false → IsTrue false ↔ AreOnOneLine (map raw items)
+pub line_lost : (items : List Item) (k : ℕ) (item d : Item) (is : Bool) → k < length items → item ≡ get_or items k d → IsTrue is ↔ (quoted_feeds (raw item) ≡ 0) → is ≡ false → IsTrue false ↔ QuotesAreOnOneLine (map raw items)
 line_lost items k item d is less at both e = (
   λ no. absurd cc,
-  λ all. absurd (both_ways is e (both.1 (subst (λ i. line_feeds_in (raw i) ≡ 0) (sym at) (at_item items k d less all)))),
+  λ all. absurd (both_ways is e (both.1 (subst (λ i. quoted_feeds (raw i) ≡ 0) (sym at) (at_item items k d less all)))),
 )
 
 -- ---- the record of tokens

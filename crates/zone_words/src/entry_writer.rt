@@ -4,6 +4,7 @@ ghost use Rattle.zone_rdata.specs.Item.{raw};
 ghost use Rattle.zone_words.specs.Machine.EntryWriting.{PushesEntry};
 ghost use Rattle.zone_words.specs.Inherited.{IsInherited};
 
+use crate::data_item::DataItem;
 use crate::entry_form::form_of;
 use crate::inherited::Inherited;
 use crate::refusal::Refusals;
@@ -16,7 +17,6 @@ use zone_text::line_feeds;
 /// What is written for entries, and what they leave to those after them.
 #[derive(Drop)]
 pub(crate) struct EntryWriter {
-    alloc: Global,
     /// What holds for the next entry.
     inherited: Inherited,
     /// The line of the next entry, from 1.
@@ -41,7 +41,6 @@ impl EntryWriter {
         ensures written { result.written.items ≡ [] }
     {
         EntryWriter {
-            alloc,
             inherited: Inherited::new(origin),
             line: 1,
             stated: EntryData {
@@ -68,12 +67,18 @@ impl EntryWriter {
         self.written.clear();
     }
 
-    /// Writes what becomes of one more entry, of whose items these are kept, and tells of it.
+    /// Writes what becomes of one more entry, of whose items these are kept, and tells of it. `words`
+    /// is room for items.
     ///
     /// # Errors
     ///
     /// `AllocError`: nothing of the entry is written or told.
-    pub(crate) fn push(&mut self, entry: &[u8], items: &[Item]) -> Result<(), AllocError>
+    pub(crate) fn push<'t>(
+        &mut self,
+        entry: &[u8],
+        items: &[Item<'t>],
+        words: &mut Vec<DataItem<'t>>,
+    ) -> Result<(), AllocError>
         requires lines { self.old.line + length entry.now < 2 ^ 64 }
         requires counts { self.old.refusals.count + 1 < 2 ^ 64 }
         ensures pushed { OnOk result (PushesEntry entry.now (map raw items.now) self.old self.new) }
@@ -84,16 +89,16 @@ impl EntryWriter {
         let form = form_of(entry, items);
         self.inherited.follow(form);
         let turn = turn_of(
-            self.alloc,
             entry,
             items,
             form,
             self.line,
             &self.inherited,
+            words,
             &mut self.stated,
         )?;
         turn.push(entry, &self.stated, &mut self.scratch, &mut self.written)?;
-        self.refusals = self.refusals.with(turn.refusal());
+        self.refusals.add(turn.refusal());
         self.line += line_feeds(entry) as u64;
         Ok(())
     }

@@ -14,6 +14,7 @@ ghost use Rattle.zone_words.specs.Machine.FedWriting.{
   line_reach,
 };
 
+use crate::data_item::DataItem;
 use crate::entry_writer::EntryWriter;
 use std::alloc::{AllocError, Global};
 use zone_name::CasedName;
@@ -23,7 +24,7 @@ use zone_text::{EntryState, FirstEntry, OpenEntry, entry_items, first_entry};
 /// What is written for the entries that were ended, and the octets after them.
 #[derive(Drop)]
 pub(crate) struct FedWriter {
-    alloc: Global,
+    pub(crate) alloc: Global,
     pub(crate) entries: EntryWriter,
     /// The entry that isn't ended. No other input is kept.
     pub(crate) unfinished: OpenEntry,
@@ -75,9 +76,10 @@ impl FedWriter {
         ensures in_part { OnErr result (FollowInPart self.old piece.now self.new) }
     {
         let mut items = Vec::new(self.alloc);
+        let mut words = Vec::new(self.alloc);
         let mut rest = piece;
         while !self.is_settled(rest) {
-            rest = self.take_front(rest, &mut items)?;
+            rest = self.take_front(rest, &mut items, &mut words)?;
         }
         self.entries.push_as_it_is(rest)?;
         Ok(())
@@ -98,6 +100,7 @@ impl FedWriter {
         &mut self,
         octets: &'p [u8],
         items: &mut Vec<Item<'p>>,
+        words: &mut Vec<DataItem<'p>>,
     ) -> Result<&'p [u8], AllocError>
         requires is { IsFedWriter self.old }
         requires going { self.old.is_broken ≡ false }
@@ -113,7 +116,7 @@ impl FedWriter {
         if self.unfinished.octets().is_empty() {
             if let FirstEntry::Whole(len) = first_entry(octets, items)? {
                 let (entry, left) = octets.split_at(len);
-                self.entries.push(entry, items)?;
+                self.entries.push(entry, items, words)?;
                 return Ok(left);
             }
         }
@@ -144,9 +147,10 @@ impl FedWriter {
     {
         {
             let mut items = Vec::new(self.alloc);
+            let mut words = Vec::new(self.alloc);
             let entry = self.unfinished.octets();
             entry_items(entry, &mut items)?;
-            self.entries.push(entry, &items)?;
+            self.entries.push(entry, &items, &mut words)?;
         }
         self.unfinished.clear();
         Ok(())

@@ -5,8 +5,7 @@ ghost use Rattle.zone_name.specs.Name.{folded_label};
 ghost use Rattle.zone_rdata.specs.Item.{RawItem, raw};
 ghost use Rattle.zone_text.specs.PartsIn.{ArePartsIn};
 ghost use Rattle.zone_text.specs.Statements.{Parts, Statement, parts_after, parts_in};
-ghost use Rattle.zone_words.specs.Entry.{AreOnOneLine, line_feeds_in};
-ghost use Rattle.zone_words.specs.Machine.Further.{FindsParts, IsForm, NoneIsFurther};
+ghost use Rattle.zone_words.specs.Machine.Further.{FindsParts, IsForm, NoneIsFurther, QuotesAreOnOneLine, quoted_feeds};
 ghost use Rattle.zone_words.specs.Refusal.{refused_of};
 
 use crate::entry_form::EntryForm;
@@ -34,15 +33,15 @@ fn record_of<'i, 't>(parts: RecordParts<'i, 't>, is_internet: bool) -> Option<Fu
         → ArePartsIn (parts_after [] items) parts.entry
         → NoneIsFurther (parts_after [] items) is_internet) }
 {
-    if !parts.have_values() {
-        return None;
-    }
     let Some((word, after)) = split_bare(parts.rest) else {
         return None;
     };
     let Some(further) = further_type_of(word) else {
         return None;
     };
+    if !parts.have_values() {
+        return None;
+    }
     if further.in_internet_alone && !is_internet {
         return None;
     }
@@ -106,17 +105,19 @@ fn has_no_line_feed(octets: &[u8]) -> bool
     !octets.contains(&b'\n')
 }
 
-/// Whether no line feed stands in an item.
+/// Whether no line feed stands in an item. In a bare one none does.
 fn is_on_one_line(item: &Item) -> bool
-    ensures { IsTrue result ↔ (line_feeds_in (raw item.now) ≡ 0) }
+    ensures { IsTrue result ↔ (quoted_feeds (raw item.now) ≡ 0) }
 {
-    let (Item::Bare(text) | Item::Quoted(text)) = *item;
-    has_no_line_feed(text)
+    match item {
+        Item::Bare(_) => true,
+        Item::Quoted(text) => has_no_line_feed(text),
+    }
 }
 
 /// Whether no line feed stands in the items.
 pub(crate) fn are_on_one_line(items: &[Item]) -> bool
-    ensures { IsTrue result ↔ AreOnOneLine (map raw items.now) }
+    ensures { IsTrue result ↔ QuotesAreOnOneLine (map raw items.now) }
 {
     for item in items {
         if !is_on_one_line(item) {

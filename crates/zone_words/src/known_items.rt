@@ -1,6 +1,6 @@
 //! Where the items of an entry stand, which are known: what lies between them is looked at, and no
 //! octet of theirs (RFC 1035 5.1).
-ghost use Rattle.std.specs.Prelude.{◌≡◌, ◌<◌, ◌∷◌, ℕ, [], IfNone, IfOk, IfSome, List, OnOk, drop, filter, length, map, true};
+ghost use Rattle.std.specs.Prelude.{◌≡◌, ◌≢◌, ◌<◌, ◌∷◌, ℕ, [], IfNone, IfOk, IfSome, List, OnOk, drop, false, filter, length, map, true};
 ghost use Rattle.zone_rdata.specs.Item.{raw};
 ghost use Rattle.zone_text.specs.Tokens.{Token, AreTokensOf, text};
 ghost use Rattle.zone_words.specs.DataItem.{given, items_of};
@@ -10,7 +10,7 @@ ghost use Rattle.zone_words.specs.Machine.Walking.{BeginsBlank};
 ghost use Rattle.zone_words.specs.Written.{stays};
 
 use crate::data_item::DataItem;
-use std::alloc::{AllocError, Global};
+use std::alloc::AllocError;
 use zone_rdata::Item;
 use zone_text::{first_token, is_blank};
 
@@ -53,10 +53,35 @@ fn past_token(octets: &[u8]) -> Option<&[u8]>
     }
 }
 
+/// Whether an item begins with the octet. No for some that begin one.
+fn begins_item(octet: u8) -> bool
+    ensures between { result ≡ true → is_between octet ≡ false }
+    ensures comment { result ≡ true → octet ≢ 59 }
+{
+    octet > b')' && octet != b';'
+}
+
+/// What follows the gap at the front, where it is one blank, as most are. `None`: it may be another.
+#[inline(always)]
+fn past_one_blank(octets: &[u8]) -> Option<&[u8]>
+    ensures passed { IfSome result (λ rest. PassesGap octets.now rest.now) }
+    ensures kept { IfSome result (λ rest. (old : List ℕ) → KeepsGap octets.now old old) }
+{
+    let (first, rest) = octets.split_first()?;
+    let (next, _) = rest.split_first()?;
+    if *first != b' ' {
+        return None;
+    }
+    if begins_item(*next) { Some(rest) } else { None }
+}
+
 /// The octets from the first item on.
 fn past_gap(octets: &[u8]) -> &[u8]
     ensures { PassesGap octets.now result.now }
 {
+    if let Some(rest) = past_one_blank(octets) {
+        return rest;
+    }
     let mut rest = octets;
     while let Some(after) = past_token(rest) {
         rest = after;
@@ -77,6 +102,18 @@ fn begins_with_blank(octets: &[u8]) -> bool
 /// As `past_gap`. The parentheses, comments and line feeds before the item are put after others.
 #[inline(always)]
 fn take_gap<'e>(octets: &'e [u8], staying: &mut Vec<u8>) -> Result<&'e [u8], AllocError>
+    ensures passed { IfOk result (λ rest. PassesGap octets.now rest.now) }
+    ensures kept { OnOk result (KeepsGap octets.now staying.old.items staying.new.items) }
+{
+    match past_one_blank(octets) {
+        Some(rest) => Ok(rest),
+        None => take_any_gap(octets, staying),
+    }
+}
+
+/// As `take_gap`, of a gap of which nothing is known.
+#[inline(never)]
+fn take_any_gap<'e>(octets: &'e [u8], staying: &mut Vec<u8>) -> Result<&'e [u8], AllocError>
     ensures passed { IfOk result (λ rest. PassesGap octets.now rest.now) }
     ensures kept { OnOk result (KeepsGap octets.now staying.old.items staying.new.items) }
 {
@@ -138,27 +175,29 @@ pub(crate) fn around_item<'e>(
     (front, past_item(rest, &items[before]))
 }
 
-/// The items of the octets after a type's word, each with whether it directly follows another. The
-/// parentheses, comments and line feeds come in place of what `staying` held.
+/// Puts the items of the octets after a type's word, each with whether it directly follows another,
+/// in place of what `found` held, and the parentheses, comments and line feeds in place of what
+/// `staying` held.
 ///
 /// # Errors
 ///
 /// `AllocError`.
 pub(crate) fn data_items<'e>(
-    alloc: Global,
-    octets: &'e [u8],
+    octets: &[u8],
     items: &[Item<'e>],
+    found: &mut Vec<DataItem<'e>>,
     staying: &mut Vec<u8>,
-) -> Result<Vec<DataItem<'e>>, AllocError>
-    ensures found { IfOk result (λ found. (tokens : List Token) → AreTokensOf octets.now tokens
+) -> Result<(), AllocError>
+    ensures found { OnOk result ((tokens : List Token) → AreTokensOf octets.now tokens
         → map raw items.now ≡ items_of (touching_items true tokens)
-        → map given found.items ≡ touching_items true tokens) }
+        → map given found.new.items ≡ touching_items true tokens) }
     ensures staying { OnOk result ((tokens : List Token) → AreTokensOf octets.now tokens
         → map raw items.now ≡ items_of (touching_items true tokens)
         → staying.new.items ≡ text (filter stays tokens)) }
 {
     staying.clear();
-    let mut found = Vec::with_capacity(alloc, items.len())?;
+    found.clear();
+    found.reserve(items.len())?;
     let mut rest = octets;
     for item in items {
         let ahead = take_gap(rest, staying)?;
@@ -169,5 +208,5 @@ pub(crate) fn data_items<'e>(
         rest = past_item(ahead, item);
     }
     take_gap(rest, staying)?;
-    Ok(found)
+    Ok(())
 }

@@ -40,18 +40,18 @@ impl Refusals {
         }
     }
 
-    /// These, and what is told of one more entry.
-    pub(crate) fn with(self, told: Option<Refusal>) -> Refusals
-        requires { self.count + 1 < 2 ^ 64 }
-        ensures added { AddsTold (option_to_list (option_map refused_of told)) self result }
-        ensures at_most_one { result.count ≤ self.count + 1 }
+    /// Adds what is told of one more entry.
+    pub(crate) fn add(&mut self, told: Option<Refusal>)
+        requires { self.old.count + 1 < 2 ^ 64 }
+        ensures added { AddsTold (option_to_list (option_map refused_of told)) self.old self.new }
+        ensures at_most_one { self.new.count ≤ self.old.count + 1 }
     {
         match told {
-            Some(_) => Refusals {
-                first: self.first.or(told),
-                count: self.count + 1,
-            },
-            None => self,
+            Some(_) => {
+                self.first = self.first.or(told);
+                self.count += 1;
+            }
+            None => {}
         }
     }
 }

@@ -93,8 +93,9 @@ impl Rewriter {
         ensures uncounted { OnErr result (self.new.fed ≡ 0) }
     {
         let writer = &mut self.writer;
+        let mut words = Vec::new(writer.alloc);
         writer.restart(origin);
-        match writer.entries.push(entry, items) {
+        match writer.entries.push(entry, items, &mut words) {
             Ok(()) => {
                 (self.status, self.fed) = (FedStatus::Finished, entry.len() as u64);
                 Ok(())

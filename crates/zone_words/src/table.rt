@@ -80,6 +80,9 @@ const DS: u16 = 43;
 /// How many registered types stand before it.
 const EARLY: usize = 41;
 
+/// How many from it on are the types of signed zones, whose words stand there most.
+const SIGNED: usize = 10;
+
 /// The further type of a number. `None`: it is that of none.
 pub(crate) fn further_type_numbered(number: u16) -> Option<&'static FurtherType>
     ensures { option_map further_of (option_copied result) ≡ further_type number }
@@ -112,9 +115,13 @@ pub(crate) fn number_of_type(word: &[u8]) -> Option<u64>
         (NothingIs (IsWordAmong registered_types (codes "TYPE") word.now)) }
 {
     let (early, late) = TYPES.split_at(EARLY);
-    match number_of_word(late, b"TYPE", word) {
+    let (signed, last) = late.split_at(SIGNED);
+    if let Some(number) = number_of_word(signed, b"TYPE", word) {
+        return Some(number);
+    }
+    match number_of_word(early, b"TYPE", word) {
         Some(number) => Some(number),
-        None => number_of_word(early, b"TYPE", word),
+        None => number_of_word(last, b"TYPE", word),
     }
 }
 

@@ -9,6 +9,7 @@ ghost use Rattle.zone_words.specs.Machine.Turn.{AreInWords, StandsBeside, TakesR
 ghost use Rattle.zone_words.specs.declared.turn.EntryData.{EntryData};
 
 use crate::data::{DataFailing, read_data};
+use crate::data_item::DataItem;
 use crate::entry_form::EntryForm;
 use crate::fault::WordsFault;
 use crate::further::{FurtherRecord, are_on_one_line, further_record};
@@ -16,7 +17,7 @@ use crate::inherited::Inherited;
 use crate::known_items::{around_item, data_items};
 use crate::refusal::Refusal;
 use crate::writing::Around;
-use std::alloc::{AllocError, Global};
+use std::alloc::AllocError;
 use zone_name::CasedName;
 use zone_rdata::{Item, is_generic};
 use zone_text::MOST_ITEMS;
@@ -77,14 +78,15 @@ fn turn_in_generic_form<'e>(entry: &'e [u8], items: &[Item], found: &FurtherReco
 }
 
 /// What becomes of a record whose data is in words, under the origin that holds for it. The data
-/// that it states is put in place of what `stated` held.
-fn turn_in_words<'e>(
-    alloc: Global,
+/// that it states is put in place of what `stated` held, and the items of the data in place of what
+/// `words` held.
+fn turn_in_words<'e, 't>(
     entry: &'e [u8],
     items: &[Item],
-    found: &FurtherRecord,
+    found: &FurtherRecord<'_, 't>,
     line: u64,
     above: &CasedName,
+    words: &mut Vec<DataItem<'t>>,
     stated: &mut EntryData,
 ) -> Result<Turn<'e>, AllocError>
     requires { length found.now.items.now < length items.now }
@@ -92,8 +94,8 @@ fn turn_in_words<'e>(
         (TakesRecordsTurn entry.now found.now (map raw items.now) line above.now stated.new) }
 {
     let around = around_type(entry, items, found);
-    let words = data_items(alloc, around.back, found.items, &mut stated.staying)?;
-    match read_data(&found.further.fields, &words, above, &mut stated.octets) {
+    data_items(around.back, found.items, words, &mut stated.staying)?;
+    match read_data(&found.further.fields, words, above, &mut stated.octets) {
         Ok(()) => Ok(Turn::InOctets(around)),
         Err(DataFailing::Fault { field, fault }) => {
             Ok(Turn::Refused(found.refusal(line, field, fault)))
@@ -104,13 +106,13 @@ fn turn_in_words<'e>(
 
 /// What becomes of a record of whose entry these items are kept, under the origin that holds for it.
 /// The data that it states is put in place of what `stated` held.
-fn turn_of_record<'e>(
-    alloc: Global,
+fn turn_of_record<'e, 't>(
     entry: &'e [u8],
     items: &[Item],
-    found: &FurtherRecord,
+    found: &FurtherRecord<'_, 't>,
     line: u64,
     above: &CasedName,
+    words: &mut Vec<DataItem<'t>>,
     stated: &mut EntryData,
 ) -> Result<Turn<'e>, AllocError>
     requires { length found.now.items.now < length items.now }
@@ -127,7 +129,7 @@ fn turn_of_record<'e>(
         let fault = WordsFault::LineFeedWithinQuotes;
         return Ok(Turn::Refused(found.refusal(line, "data", fault)));
     }
-    turn_in_words(alloc, entry, items, found, line, above, stated)
+    turn_in_words(entry, items, found, line, above, words, stated)
 }
 
 /// What becomes of the entry on a line, of which these items are kept and which is of this form,
@@ -137,13 +139,13 @@ fn turn_of_record<'e>(
 /// # Errors
 ///
 /// `AllocError`.
-pub(crate) fn turn_of<'e>(
-    alloc: Global,
+pub(crate) fn turn_of<'e, 't>(
     entry: &'e [u8],
-    items: &[Item<'e>],
-    form: EntryForm<'_, 'e>,
+    items: &[Item<'t>],
+    form: EntryForm<'_, 't>,
     line: u64,
     left: &Inherited,
+    words: &mut Vec<DataItem<'t>>,
     stated: &mut EntryData,
 ) -> Result<Turn<'e>, AllocError>
     requires { IsForm (statement_by (slice_get entry.now 0) (map raw items.now)) form }
@@ -154,7 +156,7 @@ pub(crate) fn turn_of<'e>(
         return Ok(Turn::Stays);
     };
     match &left.origin {
-        Some(above) => turn_of_record(alloc, entry, items, &found, line, above, stated),
+        Some(above) => turn_of_record(entry, items, &found, line, above, words, stated),
         None => Ok(Turn::Stays),
     }
 }

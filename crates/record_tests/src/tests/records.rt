@@ -127,9 +127,10 @@ const STRINGS: &[u8] = b"\x02ab\x01c";
 /// Appends a record of these strings, for which the memory of a record that was skipped is used.
 fn push_strings(alloc: Global, pending: &mut PendingRecords) -> Result<(), Fail> {
     let owner = rooted(b"b.")?;
-    let data = data_of(alloc, "x.", "IN TXT ab c")??;
-    let rr = RrRef::of_parts(owner.lend().copy(), 5, data.lend());
-    pending.placed.push(&rr, Place::Line(5))?;
+    let mut data = data_of(alloc, "x.", "IN TXT ab c")??;
+    pending
+        .placed
+        .push_exchanged(owner.lend(), 5, &mut data, Place::Line(5))?;
     Ok(())
 }
 

@@ -62,6 +62,18 @@ fn stops_are_shown(rt: HostRuntime) -> Result<(), Fail> {
 }
 
 #[test]
+fn a_name_is_debugged_without_the_octets_of_names_before(rt: HostRuntime) -> Result<(), Fail> {
+    let mut name = rooted(b"longer.example.")?;
+    let is_set = name.set_from_text(b"a.", None).is_ok();
+    let shown = format!(in rt.alloc(); "{is_set} {name:?}")?;
+    check_same(
+        "what a name is debugged as",
+        shown.as_str(),
+        "true Name { octets: [1, 97, 0] }",
+    )
+}
+
+#[test]
 fn failings_are_shown(rt: HostRuntime) -> Result<(), Fail> {
     for (failing, line) in [
         (

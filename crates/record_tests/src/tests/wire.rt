@@ -151,6 +151,19 @@ fn a_builder_has_its_layout(rt: HostRuntime) -> Result<(), Fail> {
 }
 
 #[test]
+fn a_builder_in_the_memory_of_other_data(rt: HostRuntime) -> Result<(), Fail> {
+    let mut other = builder_of(rt.alloc(), "731")?;
+    judged(other.push_octets(b"octets of before"))??;
+    let (class, kind) = in_class_in("1")?;
+    let mut builder = RdataBuilder::reusing(other.finish()?, class, kind);
+    judged(builder.push_octets(b"abcd"))??;
+    check(
+        builder.finish()?.octets() == b"abcd".as_slice(),
+        "the data has no octets of the other",
+    )
+}
+
+#[test]
 fn data_of_parts(rt: HostRuntime) -> Result<(), Fail> {
     check_lines::<Built>(rt.alloc(), BUILT)
 }

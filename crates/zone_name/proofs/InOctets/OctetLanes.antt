@@ -1,7 +1,7 @@
 -- Lanes that are computed one by one from octets, and what their masks tell of the octets.
-use Rattle.std.proofs.Common.{◌≡◌, ℕ, ◌+◌, ◌%◌, ◌^◌, ◌≤◌, eqb, Bool, true, false, cond, not, List, [], ◌∷◌, map, length, take, drop, Fits, w8, refl, sym, ap, ap₂, ◌∙◌, arith, length-drop, take-add, drop-drop, take_at, length-append, ◌++◌}
+use Rattle.std.proofs.Common.{◌≡◌, ℕ, ◌+◌, ◌%◌, ◌^◌, ◌≤◌, eqb, Bool, true, cond, List, [], ◌∷◌, map, length, take, drop, Fits, w8, refl, sym, ap, ap₂, ◌∙◌, arith, length-drop, take-add, drop-drop, take_at, length-append, ◌++◌}
 use Rattle.std.proofs.lemmas.List.{drop_at, length-map, length-take-le, map-append, take-map, take-take}
-use Rattle.zone_name.proofs.Common.{common_steps, agree_below, agree_below_at, append_assoc, eqb-true, length-put_chunk, list_all, map-map, ◌<◌, mask_l-mod, put_chunk_is}
+use Rattle.zone_name.proofs.Common.{agree_below, agree_below_at, append_assoc, eqb-true, length-put_chunk, map-map, ◌<◌, mask_l-mod, put_chunk_is}
 use lib.Lanes.{Each1, chunk, mask_l, put_chunk, sel_l, top}
 
 -- ---- lanes that were computed by a function of each octet
@@ -42,20 +42,6 @@ module _ (p : ℕ → Bool) (v : List ℕ) (short : length v ≤ 64) (fits : Eac
       ap (λ l. mask_l l % 2 ^ 64) (ap (map (top 7)) lanes ∙ map-map (top 7) f v
       ∙ same_each (λ x. top 7 (f x)) p v fits (λ x h. agree_below_at (λ y. top 7 (f y)) p 256 x all h))
       ∙ mask_l-mod (map p v) 64 (omega (arith, short, length-map v p))
-
--- ---- where no octet fails a test, the mask of those that fail is empty, and the other way round
-
-pub all_pass : (q : ℕ → Bool) (v : List ℕ) → mask_l (map (λ x. not (q x)) v) ≡ 0 → list_all q v ≡ true
-all_pass q [] e = refl
-all_pass q (x ∷ v) e = grind (arith, common_steps, all_pass q v)
-
-pub none_fail : (q : ℕ → Bool) (v : List ℕ) → list_all q v ≡ true → mask_l (map (λ x. not (q x)) v) ≡ 0
-none_fail q [] e = refl
-none_fail q (x ∷ v) e = grind (arith, common_steps, none_fail q v)
-
-pub some_fail : (q : ℕ → Bool) (v : List ℕ) → (mask_l (map (λ x. not (q x)) v) ≡ 0 → ⊥)
-    → list_all q v ≡ false
-some_fail q v some = grind (arith, common_steps, none_fail)
 
 -- ---- a walk that changes the octets at the front, some at a time
 

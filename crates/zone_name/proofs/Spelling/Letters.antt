@@ -112,12 +112,12 @@ named_by letters origin text octets new spelled (Err fault) holds read known ok 
     (tt, ap (λ r. under_origin (origin_in origin) (lettered_in letters r)) read.1 ∙ err letters holds known (lettered letters read.0) read.2)
 
 -- where an ending that there is room for comes after the labels
-pub ended_name : (letters : Letters) (origin : Option (List ℕ)) (text octets ending room : List ℕ) (spelled : Spelled) (result : Option ℕ) → HoldsLabelsBy letters octets → IsReadBy letters text octets spelled → IfSome origin (HoldsNameBy letters) → Ends origin spelled ending → IfSome result (λ n. n ≤ 128) → IfSome result (λ n. take n room ≡ octets ++ ending) → IfSome result (λ n. HoldsNameBy letters (take n room) × (name_read letters (origin_in origin) text ≡ Ok (labels_of (take n room))))
-ended_name letters origin text octets ending room spelled (Some n) holds read known ends within is =
-    let few : length octets + length ending ≤ 255 = omega (arith, within, length-take n room, ap length is, length-append octets ending) in
+pub ended_name : (letters : Letters) (origin : Option (List ℕ)) (text octets ending room : List ℕ) (spelled : Spelled) (result : Option ℕ) → HoldsLabelsBy letters octets → IsReadBy letters text octets spelled → IfSome origin (HoldsNameBy letters) → Ends origin spelled ending → length room ≤ 255 → IfSome result (λ n. n ≤ length room) → IfSome result (λ n. take n room ≡ octets ++ ending) → IfSome result (λ n. HoldsNameBy letters (take n room) × (name_read letters (origin_in origin) text ≡ Ok (labels_of (take n room))))
+ended_name letters origin text octets ending room spelled (Some n) holds read known ends fits within is =
+    let few : length octets + length ending ≤ 255 = omega (arith, fits, within, length-take n room, ap length is, length-append octets ending) in
     (named_by letters origin text octets (take n room) spelled (Ok tt) holds read known
     (finished origin spelled octets ending (take n room) (Ok tt) ends (λ by labels name. ended_with by octets ending (take n room) labels name is few)) tt).0
-ended_name letters origin text octets ending room spelled None holds read known ends within is = tt
+ended_name letters origin text octets ending room spelled None holds read known ends fits within is = tt
 
 -- ---- what is known of octets that hold a name
 

@@ -129,6 +129,12 @@ says_by text front true (label ∷ labels) cut each short dots =
 says_by text front false (label ∷ labels) cut each short dots =
     finds parted text (label ∷ labels) (omega arith) each short (cc (dots-parted label labels))
 
+-- a room with a dot at its beginning, and a further one
+pub dot_first : (room : List ℕ) (at : ℕ) → at < length room → 0 < at → set (set room 0 46) at 46 ≡ 46 ∷ drop 1 (set (set room 0 46) at 46)
+dot_first [] at inside some = absurd (omega (arith, inside))
+dot_first (c ∷ room) zero inside some = absurd (omega (arith, some))
+dot_first (c ∷ room) (suc at) inside some = refl
+
 -- what was read into octets, and what the text reads as
 pub record PlainRead (text new : List ℕ) (is_absolute : Bool) : Type 0 where
   pub labels : List (List ℕ)

@@ -1,8 +1,7 @@
 -- The spelling of a whole name: a dot over each length, where the octets of all labels spell
 -- themselves.
-use Rattle.std.proofs.lemmas.List.Folds.{list_all-append}
 use Rattle.std.proofs.lemmas.List.Sums.{count_by-le-length, sum_by-append, sum_by-cons}
-use Rattle.zone_name.proofs.Common.{common_steps, AllByRecursion, BeginsWithName, Bool, HoldsName, IsLabel, List, TurnsFront, [], and_parts, ap, ap₂, append-nil, append_assoc, arith, cases_Bool, cond, count_by, drop, drop_at, each_after, false, flat_map, flat_map-append, get_or, is_bare, is_dot, label_text, labels_of, length, length-append, length-map, length-take, list_all, map, name_text, octet_text, put_chunk_is, refl, set, set_at, sym, take, take-add, take-append-drop, take_at, true, wire, with_length, ℕ, ◌++◌, ◌+◌, ◌-◌, ◌/◌, ◌<◌, ◌∙◌, ◌∷◌, ◌≡◌, ◌≤◌}
+use Rattle.zone_name.proofs.Common.{common_steps, AllByRecursion, BeginsWithName, Bool, HoldsName, IsLabel, List, TurnsFront, [], and_parts, ap, ap₂, append-nil, append_assoc, arith, cases_Bool, cond, count_by, drop, drop_at, each_after, false, flat_map, flat_map-append, get_or, is_odd, label_text, labels_of, length, length-append, length-map, length-take, map, name_text, octet_text, put_chunk_is, refl, set, set_at, sym, take, take-add, take-append-drop, take_at, wire, with_length, ℕ, ◌++◌, ◌+◌, ◌-◌, ◌/◌, ◌<◌, ◌∙◌, ◌∷◌, ◌≡◌, ◌≤◌}
 use Rattle.std.proofs.lemmas.List.{get_or_at}
 use lib.Lanes.{put_chunk}
 use Rattle.zone_name.proofs.InOctets.Evens.{length-each_after}
@@ -96,7 +95,7 @@ dotted_end old now next at labels done [] w root is =
 dotted_end old now next at labels done (label ∷ left) w root is =
     grind (arith, common_steps, get_or_at, append_assoc)
 
--- ---- how many dots there are
+-- ---- how many octets don't spell themselves
 
 count_append : (p : ℕ → Bool) (xs ys : List ℕ) → count_by p (xs ++ ys) ≡ count_by p xs + count_by p ys
 count_append p xs ys = sum_by-append (λ x. cond (p x) 1 0) xs ys
@@ -104,44 +103,38 @@ count_append p xs ys = sum_by-append (λ x. cond (p x) 1 0) xs ys
 count_cons : (p : ℕ → Bool) (x : ℕ) (xs : List ℕ) → count_by p (x ∷ xs) ≡ cond (p x) 1 0 + count_by p xs
 count_cons p x xs = sum_by-cons (λ y. cond (p y) 1 0) x xs
 
--- what was seen of the octets, as far as a place
-pub record Seen (octets : List ℕ) (at dots : ℕ) : Type 0 where
-  pub bare : list_all is_bare (take at octets) ≡ true
-  pub count : dots ≡ count_by is_dot (take at octets)
+pub odd_more : (octets : List ℕ) (at n odd more : ℕ) → odd ≡ count_by is_odd (take at octets)
+    → more ≡ count_by is_odd (take n (drop at octets)) → odd + more ≡ count_by is_odd (take (at + n) octets)
+odd_more octets at n odd more count next =
+    omega (arith, count, next, ap (count_by is_odd) (take-add at n octets), count_append is_odd (take at octets) (take n (drop at octets)))
 
-pub seen_more : (octets : List ℕ) (at n dots more : ℕ) → Seen octets at dots
-    → list_all is_bare (take n (drop at octets)) ≡ true → more ≡ count_by is_dot (take n (drop at octets))
-    → Seen octets (at + n) (dots + more)
-seen_more octets at n dots more seen bare count =
-    grind (arith, common_steps, is_bare, take-add, list_all-append, count_append, is_dot, count_by)
-
--- no more dots than octets
-pub few_dots : (octets : List ℕ) (at n dots : ℕ) → dots ≡ count_by is_dot (take n (drop at octets)) → dots ≤ n
-few_dots octets at n dots count = omega (arith, count, count_by-le-length is_dot (take n (drop at octets)), length-take n (drop at octets))
+-- no more than octets
+pub few_odd : (octets : List ℕ) (at n odd : ℕ) → odd ≡ count_by is_odd (take n (drop at octets)) → odd ≤ n
+few_odd octets at n odd count = omega (arith, count, count_by-le-length is_odd (take n (drop at octets)), length-take n (drop at octets))
 
 -- ---- the text
 
 -- an octet that spells itself
-bare_octet : (c : ℕ) → is_bare c ≡ true → is_dot c ≡ false → octet_text c ≡ c ∷ []
-bare_octet c bare other = grind (arith, cases_Bool, and_parts)
+shown_octet : (c : ℕ) → is_odd c ≡ false → octet_text c ≡ c ∷ []
+shown_octet c shown = grind (arith, cases_Bool, and_parts)
 
-bare_label : (label : List ℕ) → list_all is_bare label ≡ true → count_by is_dot label ≡ 0 → flat_map octet_text label ≡ label
-bare_label [] bare none = refl
-bare_label (c ∷ label) bare none = grind (arith, common_steps, count_cons, bare_octet, bare_label label)
+shown_label : (label : List ℕ) → count_by is_odd label ≡ 0 → flat_map octet_text label ≡ label
+shown_label [] none = refl
+shown_label (c ∷ label) none = grind (arith, common_steps, count_cons, shown_octet, shown_label label)
 
-dots_count : (label : List ℕ) (labels : List (List ℕ)) → count_by is_dot (after_dots (label ∷ labels)) ≡ 1 + (count_by is_dot label + count_by is_dot (after_dots labels))
-dots_count label labels = count_cons is_dot 46 (label ++ after_dots labels) ∙ ap (λ n. 1 + n) (count_append is_dot label (after_dots labels))
+dots_count : (label : List ℕ) (labels : List (List ℕ)) → count_by is_odd (after_dots (label ∷ labels)) ≡ 1 + (count_by is_odd label + count_by is_odd (after_dots labels))
+dots_count label labels = count_cons is_odd 46 (label ++ after_dots labels) ∙ ap (λ n. 1 + n) (count_append is_odd label (after_dots labels))
 
-enough_dots : (labels : List (List ℕ)) → length labels ≤ count_by is_dot (after_dots labels)
+enough_dots : (labels : List (List ℕ)) → length labels ≤ count_by is_odd (after_dots labels)
 enough_dots [] = omega arith
 enough_dots (label ∷ labels) = omega (arith, dots_count label labels, enough_dots labels)
 
--- no dot but those before the labels
-bare_text : (labels : List (List ℕ)) → list_all is_bare (after_dots labels) ≡ true → count_by is_dot (after_dots labels) ≤ length labels
+-- none but the dots before the labels
+shown_text : (labels : List (List ℕ)) → count_by is_odd (after_dots labels) ≤ length labels
     → after_dots labels ++ 46 ∷ [] ≡ 46 ∷ flat_map label_text labels
-bare_text [] bare few = refl
-bare_text (label ∷ labels) bare few =
-    grind (arith, common_steps, list_all-append, and_parts, dots_count, enough_dots labels, bare_label, append_assoc, bare_text labels)
+shown_text [] few = refl
+shown_text (label ∷ labels) few =
+    grind (arith, common_steps, dots_count, enough_dots labels, shown_label, append_assoc, shown_text labels)
 
 -- ---- a name at the beginning of more octets
 
@@ -158,27 +151,26 @@ dots_length [] = refl
 dots_length (label ∷ labels) =
     omega (arith, length-append label (after_dots labels), length-append label (flat_map with_length labels), dots_length labels)
 
--- what is seen of octets is seen of those in front
-front_seen : (front rest : List ℕ) (seen dots : ℕ) → length front ≤ seen → list_all is_bare (take seen (front ++ rest)) ≡ true
-    → dots ≡ count_by is_dot (take seen (front ++ rest)) → (list_all is_bare front ≡ true) × (count_by is_dot front ≤ dots)
-front_seen front rest seen dots enough bare count =
-    grind (arith, common_steps, take-add (length front) (seen - length front) (front ++ rest), take_at, drop_at, list_all-append, and_parts, count_append)
+-- those in front are no more than those that were counted
+front_seen : (front rest : List ℕ) (seen odd : ℕ) → length front ≤ seen
+    → odd ≡ count_by is_odd (take seen (front ++ rest)) → count_by is_odd front ≤ odd
+front_seen front rest seen odd enough count =
+    grind (arith, common_steps, take-add (length front) (seen - length front) (front ++ rest), take_at, drop_at, count_append)
 
--- the dots that were counted in the text and some octets after it are those of the labels alone
-text_whole : (labels : List (List ℕ)) (rest : List ℕ) (seen dots : ℕ) → 1 < length (wire labels) → length (wire labels) ≤ seen
-    → list_all is_bare (take seen (after_dots labels ++ 46 ∷ rest)) ≡ true
-    → dots ≡ count_by is_dot (take seen (after_dots labels ++ 46 ∷ rest)) → dots ≡ length labels + 1
+-- those that were counted in the text and some octets after it are the dots of the labels alone
+text_whole : (labels : List (List ℕ)) (rest : List ℕ) (seen odd : ℕ) → 1 < length (wire labels) → length (wire labels) ≤ seen
+    → odd ≡ count_by is_odd (take seen (after_dots labels ++ 46 ∷ rest)) → odd ≡ length labels + 1
     → take (length (wire labels)) (after_dots labels ++ 46 ∷ rest) ≡ 46 ∷ name_text labels
-text_whole labels rest seen dots some enough bare count same =
+text_whole labels rest seen odd some enough count same =
     let front = after_dots labels ++ 46 ∷ [] in
     let parts : after_dots labels ++ 46 ∷ rest ≡ front ++ rest = sym (append_assoc (after_dots labels) (46 ∷ []) rest) in
     let size : length front ≡ length (wire labels) =
     omega (arith, dots_length labels, length-append (after_dots labels) (46 ∷ []), length-append (flat_map with_length labels) (0 ∷ [])) in
-    grind (arith, common_steps, front_seen front rest seen dots, list_all-append, and_parts, count_append, take_at, bare_text)
+    grind (arith, common_steps, front_seen front rest seen odd, count_append, take_at, shown_text)
 
-pub spelled_whole : (name old new : List ℕ) (labels seen dots : ℕ) → HoldsName name → 1 < length name
+pub spelled_whole : (name old new : List ℕ) (labels seen odd : ℕ) → HoldsName name → 1 < length name
     → old ≡ name ++ drop (length name) old → IsDotted old new labels → length name ≤ seen
-    → list_all is_bare (take seen new) ≡ true → dots ≡ count_by is_dot (take seen new) → dots ≡ labels + 1
+    → odd ≡ count_by is_odd (take seen new) → odd ≡ labels + 1
     → take (length name) new ≡ 46 ∷ name_text (labels_of name)
-spelled_whole name old new labels seen dots holds some begins dotted enough bare count same =
-    grind (arith, common_steps, labels_of-wire_append, text_whole, is_bare, count_by, is_dot)
+spelled_whole name old new labels seen odd holds some begins dotted enough count same =
+    grind (arith, common_steps, labels_of-wire_append, text_whole, is_odd, count_by)

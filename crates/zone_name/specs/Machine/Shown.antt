@@ -12,3 +12,7 @@ pub record IsShown (c : ℕ) : Type 0 where
 -- a dot, or an octet that spells itself
 abbrev pub is_bare : ℕ → Bool
 is_bare c = is_dot c || (not (is_special c) && is_printed c)
+
+-- an octet that doesn't spell itself, as no dot does
+abbrev pub is_odd : ℕ → Bool
+is_odd c = is_special c || not (is_printed c)

@@ -1,5 +1,7 @@
 -- Entries that are looked at run after run, each run as soon as it is sorted.
-use Rattle.zone_set.proofs.Common.{common_steps, AllByRecursion, AllByRecursion-back, AllByRecursion-front, AreNeighbours, Entry, List, Record, [], ap, append-nil, arith, drop, length, length-drop, length-take-le, map, refl, subst, suc, sym, take, take-append-drop, take-length, zero, ℕ, ◌+◌, ◌-◌, ◌∙◌, ◌∷◌, ◌≡◌, ◌≤◌}
+use Rattle.zone_set.proofs.Common.{common_steps, AllByRecursion, AllByRecursion-back, AllByRecursion-front, AreNeighbours, Entry, List, Record, [], ap, append-nil, arith, drop, length, length-drop, length-take-le, map, refl, suc, sym, take, take-append-drop, take-length, zero, ℕ, ◌+◌, ◌-◌, ◌∙◌, ◌∷◌, ◌≡◌, ◌≤◌, StandNext, nil_from_length, slice_index_or, ◌++◌, ◌<◌}
+use Rattle.std.specs.Prelude.{slice_set}
+use native.Mathlib.Numerals.{unary_clauses}
 
 pub each_drop : {X : Type 0} (P : X → Type 0) (n : ℕ) (xs : List X) → AllByRecursion P xs → AllByRecursion P (drop n xs)
 each_drop P n xs each = AllByRecursion-back P (take n xs) (drop n xs) (rw take-append-drop each)
@@ -25,13 +27,55 @@ take_rest k xs = ap (λ n. take n (drop k xs)) (sym (length-drop k xs)) ∙ take
 pub take_whole : {X : Type 0} (k : ℕ) (xs : List X) → take (length xs - k) (drop k xs) ≡ [] → take k xs ≡ xs
 take_whole k xs none = grind (arith, common_steps, take_rest, append-nil, take-append-drop)
 
+-- with two neighbours in each other's place
+abbrev changed : {X : Type 0} → ℕ → ℕ → List X → X → List X
+changed low high xs d = slice_set (slice_set xs low (slice_index_or xs high d)) high (slice_index_or xs low d)
+
+others_changed : {X : Type 0} (n : ℕ) (xs : List X) (d : X) → suc n < length xs → take n (changed n (suc n) xs d) ++ drop (suc n) (changed n (suc n) xs d) ≡ take (suc n) xs ++ drop (suc (suc n)) xs
+others_changed n [] d low = absurd (omega (arith, low))
+others_changed n (x ∷ []) d low = absurd (omega (arith, low))
+others_changed zero (x ∷ (y ∷ xs)) d low = refl
+others_changed (suc n) (x ∷ (y ∷ xs)) d low = ap (λ l. x ∷ l) (others_changed n (y ∷ xs) d (omega (arith, low)))
+
+-- those beside the one that moves stay
+pub others_stay : {X : Type 0} (at : ℕ) (xs : List X) (d : X) → 0 < at → at < length xs → take (at - 1) (changed (at - 1) at xs d) ++ drop (suc (at - 1)) (changed (at - 1) at xs d) ≡ take at xs ++ drop (suc at) xs
+others_stay zero xs d low high = absurd (omega (arith, low))
+others_stay (suc n) xs d low high = simp unary_clauses (others_changed n xs d high)
+
+-- those beside the last
+pub others_at_end : {X : Type 0} (at : ℕ) (xs : List X) → at ≡ length xs - 1 → take at xs ++ drop (suc at) xs ≡ take (length xs - 1) xs
+others_at_end at xs is =
+    let none : drop (suc at) xs ≡ [] = nil_from_length _ (length-drop (suc at) xs ∙ omega (arith, is)) in
+    ap (λ l. take at xs ++ l) none ∙ append-nil (take at xs) ∙ ap (λ n. take n xs) is
+
 module _ (f : Entry → Record) where
-  -- those before a place and those from the last of these on
-  pub AreNeighbours-joined : (n k : ℕ) (es : List Entry) → k ≡ n - 1 → AreNeighbours (map f (take n es)) → AreNeighbours (map f (drop k es)) → AreNeighbours (map f es)
-  AreNeighbours-joined zero k es is before after = grind arith
-  AreNeighbours-joined (suc zero) k es is before after = grind arith
-  AreNeighbours-joined (suc (suc n)) k [] is before after = tt
-  AreNeighbours-joined (suc (suc n)) k (d ∷ []) is before after = tt
-  AreNeighbours-joined (suc (suc n)) k (d ∷ (e ∷ es)) is before after =
-      let one : k ≡ suc n = omega (arith, is) in
-      (before.0, AreNeighbours-joined (suc n) n (e ∷ es) (omega arith) before.1 (subst (λ j. AreNeighbours (map f (drop j (d ∷ (e ∷ es))))) one after))
+  one_stands : (es : List Entry) → length es ≤ 1 → AreNeighbours (map f es)
+  one_stands [] few = tt
+  one_stands (e ∷ []) few = tt
+  one_stands (d ∷ (e ∷ es)) few = absurd (omega (arith, few))
+
+  -- the last stands alone
+  pub last_stands : (at : ℕ) (es : List Entry) → at ≡ length es - 1 → AreNeighbours (map f (drop at es))
+  last_stands at es is = one_stands (drop at es) (let left = length-drop at es in omega (arith, left, is))
+
+  put_between : (n : ℕ) (es : List Entry) (d : Entry) → suc n < length es → AreNeighbours (map f (take (suc n) es ++ drop (suc (suc n)) es)) → AreNeighbours (map f (drop (suc n) es)) → StandNext (f (slice_index_or es n d)) (f (slice_index_or es (suc n) d)) → AreNeighbours (map f es)
+  put_between n [] d low others from next = tt
+  put_between n (x ∷ []) d low others from next = tt
+  put_between zero (x ∷ (y ∷ es)) d low others from next = (next, from)
+  put_between (suc n) (x ∷ (y ∷ es)) d low others from next = (others.0, put_between n (y ∷ es) d (omega (arith, low)) others.1 from next)
+
+  -- where the others are neighbours, and those from one on, and this one stands after that before it, all are
+  pub AreNeighbours-between : (at : ℕ) (es : List Entry) (d : Entry) → 0 < at → at < length es → AreNeighbours (map f (take at es ++ drop (suc at) es)) → AreNeighbours (map f (drop at es)) → StandNext (f (slice_index_or es (at - 1) d)) (f (slice_index_or es at d)) → AreNeighbours (map f es)
+  AreNeighbours-between zero es d low high others from next = absurd (omega (arith, low))
+  AreNeighbours-between (suc n) es d low high others from next = put_between n es d high others from (simp unary_clauses at next)
+
+  put_before : (n : ℕ) (es : List Entry) (d : Entry) → suc n < length es → AreNeighbours (map f (take (suc n) es ++ drop (suc (suc n)) es)) → StandNext (f (slice_index_or es (suc n) d)) (f (slice_index_or es n d)) → AreNeighbours (map f (drop n (changed n (suc n) es d)))
+  put_before n [] d low others next = absurd (omega (arith, low))
+  put_before n (x ∷ []) d low others next = absurd (omega (arith, low))
+  put_before zero (x ∷ (y ∷ es)) d low others next = (next, others)
+  put_before (suc n) (x ∷ (y ∷ es)) d low others next = put_before n (y ∷ es) d (omega (arith, low)) others.1 next
+
+  -- and where it stands before that one, those from it on are when both have changed places
+  pub AreNeighbours-changed : (at : ℕ) (es : List Entry) (d : Entry) → 0 < at → at < length es → AreNeighbours (map f (take at es ++ drop (suc at) es)) → StandNext (f (slice_index_or es at d)) (f (slice_index_or es (at - 1) d)) → AreNeighbours (map f (drop (at - 1) (changed (at - 1) at es d)))
+  AreNeighbours-changed zero es d low high others next = absurd (omega (arith, low))
+  AreNeighbours-changed (suc n) es d low high others next = simp unary_clauses (put_before n es d high others (simp unary_clauses at next))

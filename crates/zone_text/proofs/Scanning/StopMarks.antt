@@ -1,6 +1,5 @@
 -- How far comments and bare items go, octet by octet and as the bits of 64 octets tell it.
-use Rattle.std.proofs.lemmas.List.{take-take}
-use Rattle.std.proofs.lemmas.List.Elements.{All-from_recursion, All-take}
+use Rattle.std.proofs.lemmas.List.Elements.{All-from_recursion}
 use Rattle.std.proofs.lemmas.List.Sums.{prefix_len-le-length}
 use Rattle.std.proofs.Common.{Fits, ap₂, bit_and, bit_or, eqb, w8, ◌/◌, ◌%◌, not}
 use Rattle.std.proofs.lemmas.Bool.{agree_below}
@@ -11,10 +10,9 @@ use Rattle.std.specs.Prelude.{not}
 use Rattle.std.specs.Simd.Lanes.{mask_l}
 use lib.Lanes.{Each1, top, zip2}
 use lib.ListN.{replicate}
-use Rattle.zone_text.proofs.Common.{common_steps, All, AllByRecursion, Bool, EndsAt, List, [], agree_below_at, ap, arith, cond, drop, drop-drop, false, get_or, length, length-drop, length-map, length-take, map, min, ◌||◌, refl, stops_bare, sym, take, true, ℕ, ◌+◌, ◌-◌, ◌<◌, ◌==◌, ◌^◌, ◌∙◌, ◌∷◌, ◌≡◌, ◌≢◌, ◌≤◌, add-one, before_line_feed, drop-cons, drop_of_length-le, subst}
+use Rattle.zone_text.proofs.Common.{common_steps, All, AllByRecursion, Bool, EndsAt, List, [], agree_below_at, ap, arith, cond, drop, drop-drop, false, get_or, length, length-drop, length-map, length-take, map, min, ◌||◌, refl, stops_bare, sym, take, true, ℕ, ◌+◌, ◌-◌, ◌<◌, ◌==◌, ◌^◌, ◌∙◌, ◌∷◌, ◌≡◌, ◌≢◌, ◌≤◌, add-one, before_line_feed, drop-cons, drop_of_length-le}
 use Rattle.zone_name.proofs.InOctets.LookedUp.{Repeats, looked_up}
 use Rattle.zone_name.proofs.InOctets.Runs.{after_bits, first_inside, none_inside, prefix_step}
-use Rattle.zone_text.specs.Machine.ItemLengths.{IsInRow, ends_row}
 use Rattle.zone_text.specs.Machine.Stops.{Tells}
 use Rattle.zone_text.specs.declared.stops.Stops.{Stops}
 
@@ -105,14 +103,6 @@ unknown_len stops octets ahead seen more tells none is back len = grind (arith, 
 
 pub unknown_rest : (new : Stops) (octets ahead : List ℕ) (seen more : ℕ) → ahead ≡ drop seen octets → Tells new (drop (more + 1) ahead) → Tells new (drop (seen + more + 1) octets)
 unknown_rest new octets ahead seen more back tells = grind (arith, common_steps, drop-drop)
-
--- ---- a row of bare items and blanks
-
-pub in_row : (octets : List ℕ) (n : ℕ) → n ≤ len_to ends_row octets → All IsInRow (take n octets)
-in_row octets n within =
-    let parts = stops_at_len ends_row octets (len_to ends_row octets) refl in
-    let all : take n (take (len_to ends_row octets) octets) ≡ take n octets = take-take n (len_to ends_row octets) octets within in
-    subst (All IsInRow) all (All-take IsInRow n (take (len_to ends_row octets) octets) parts.1)
 
 -- ---- 64 octets beside each other
 

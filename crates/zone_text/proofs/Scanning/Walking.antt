@@ -1,21 +1,16 @@
 -- A walk over an entry, token by token, which may stop where octets end.
-use Rattle.zone_text.proofs.Common.{All, AllByRecursion, AreKept, BadEscape, Bool, BreaksAtEnd, Cut, Cuts, EndsAt, Fault, IsBadEscape, IsBroken, IsBrokenOff, IsCutOff, IsFirstEntry, IsLostEscape, IsOpen, IsToken, IsUnit, Keeps, KeepsBare, List, MayEndBefore, None, Option, RawItem, Some, StaysBroken, Token, UnbalancedParenthesis, UnclosedQuote, Written, [], ap, append-nil, append_assoc, arith, at_end, at_line_end, at_octet, bare, blank, both_ways, closes_nothing, closing, closing_stays, comment, common_steps, cut_from, depth_after, depth_past, drop, drop-append_seam, drop-drop, ends_item, escape_open, escape_stays, false, flat_map, flat_map-append, get_or, in_front_of, inl, inr, is_blank, is_quote, item_of, length, length-append, length-drop, length-map, length-take, line_feed, map, ne_eqb, no_escape, no_quote, no_quoted_escape, not_closed, nothing_left, one_digit, opening, or_parts, plain, quote_open, quoted, quoted_escape_open, quoted_escape_stays, recursion_from_All, refl, stops_bare, subst, suc, sum_by-cons, sym, take, take-append-drop, take-append_seam, text, token_text, too_great, true, two_digits, written_text, zero, ℕ, ⊤, ◌++◌, ◌+◌, ◌-◌, ◌<◌, ◌==◌, ◌∙◌, ◌∷◌, ◌≡◌, ◌≢◌, ◌≤◌}
-use Rattle.std.proofs.lemmas.Bool.{cases_lt}
-use Rattle.std.proofs.lemmas.List.{get_or-drop, get_or-take}
-use Rattle.std.proofs.lemmas.List.Elements.{All-from_get_or, All-get_or}
-use Rattle.std.proofs.lemmas.List.Sums.{prefix_len_passes}
+use Rattle.zone_text.proofs.Common.{All, AllByRecursion, AreKept, BadEscape, Bool, BreaksAtEnd, Cut, Cuts, EndsAt, Fault, IsBadEscape, IsBroken, IsBrokenOff, IsCutOff, IsFirstEntry, IsLostEscape, IsOpen, IsToken, IsUnit, Keeps, KeepsBare, List, MayEndBefore, None, Option, RawItem, Some, StaysBroken, Token, UnbalancedParenthesis, UnclosedQuote, Written, [], ap, append-nil, append_assoc, arith, at_end, at_line_end, at_octet, bare, blank, both_ways, closes_nothing, closing, closing_stays, comment, common_steps, cut_from, depth_after, depth_past, drop, drop-append_seam, drop-drop, ends_item, escape_open, escape_stays, false, flat_map, flat_map-append, in_front_of, inl, inr, is_blank, is_quote, item_of, length, length-append, length-drop, length-map, length-take, line_feed, map, ne_eqb, no_escape, no_quote, no_quoted_escape, not_closed, nothing_left, one_digit, opening, or_parts, plain, quote_open, quoted, quoted_escape_open, quoted_escape_stays, recursion_from_All, refl, stops_bare, subst, suc, sum_by-cons, sym, take, take-append-drop, take-append_seam, text, token_text, too_great, true, two_digits, written_text, zero, ℕ, ⊤, ◌++◌, ◌+◌, ◌-◌, ◌<◌, ◌==◌, ◌∙◌, ◌∷◌, ◌≡◌, ◌≢◌, ◌≤◌}
 use Rattle.std.specs.List.{prefix_len}
-use Rattle.std.specs.Prelude.{not, ◌||◌, ◌⊎◌}
+use Rattle.std.specs.Prelude.{not}
 use Rattle.zone_rdata.specs.Item as raw
 use Rattle.zone_text.proofs.Entries.Kept.{keeps_more}
 use Rattle.zone_text.proofs.Files.Left.{line_feeds}
-use Rattle.zone_text.proofs.Scanning.StopMarks.{first_at, goes_on, prefix_stops}
+use Rattle.zone_text.proofs.Scanning.StopMarks.{goes_on, prefix_stops}
 use Rattle.zone_text.proofs.Tokens.Cuttings.{HasRoom, Stops, Takes, begins, breaks, cuts, depth_on, no_token, one_token_more, some_octet}
 use Rattle.zone_text.proofs.Tokens.ForGood.{ends_not_for_good, malformed_is_bad, stays_for_good}
 use Rattle.zone_text.proofs.Tokens.WrittenItems.{each_plain, ends_but_mark, plain_text}
 use Rattle.zone_text.proofs.Scanning.FirstEntries.{feeds_of_both, none_first, none_in, other_than_ten}
 pub use Rattle.zone_text.specs.Machine.Spans.{AreUnits, BeginsToken, EndsToken, IsItemOrComment, IsLostToken, IsOpenToken, IsSeen, ItemIs, RunsOut, Settles, between, in_bare, in_bare_lost, in_comment, in_quotes, in_quotes_lost}
-use Rattle.zone_text.specs.Machine.ItemLengths.{IsInRow}
 use Rattle.zone_text.specs.Machine.Stops.{Tells}
 pub use Rattle.zone_text.specs.Machine.Walk.{BeginAs, EndsEntry, IsBegun, IsCut, IsPast, KeepsAll, KeepsToken, StandsAt, StandsOpen, Walked, fronted}
 use Rattle.zone_text.specs.declared.stops.Stops.{Stops as StopBits}
@@ -412,79 +407,6 @@ none_seen octets = record {
 pub stands_begun : (octets : List ℕ) (at : At) (keeps : Bool) (kept : List RawItem) → at.start ≡ 0 → at.seen ≡ 0 → at.depth ≡ 0 → at.feeds ≡ 0 → kept ≡ [] → StandsAt octets at keeps kept
 stands_begun octets at keeps kept start seen depth feeds none =
     rw (start, seen, depth, feeds) (record { walked = walked_none octets keeps kept none; seen = none_seen octets; within = omega arith; order = omega arith })
-
--- ---- bare items and blanks in a row
-
-only_blank : (is feed mark left right note escape : Bool) → (feed || mark || left || right || note || escape) ≡ false → (is || feed || mark || left || right || note) || escape ≡ true → is ≡ true
-only_blank true feed mark left right note escape none stops = refl
-only_blank false true mark left right note escape none stops = absurd (let e : true ≡ false = none in cc)
-only_blank false false true left right note escape none stops = absurd (let e : true ≡ false = none in cc)
-only_blank false false false true right note escape none stops = absurd (let e : true ≡ false = none in cc)
-only_blank false false false false true note escape none stops = absurd (let e : true ≡ false = none in cc)
-only_blank false false false false false true escape none stops = absurd (let e : true ≡ false = none in cc)
-only_blank false false false false false false true none stops = absurd (let e : true ≡ false = none in cc)
-only_blank false false false false false false false none stops = stops
-
-blank_in_row : (c : ℕ) → IsInRow c → stops_bare c ≡ true → is_blank c ≡ true
-blank_in_row c in_row stops = only_blank (is_blank c) (c == 10) (c == 34) (c == 40) (c == 41) (c == 59) (c == 92) in_row stops
-
-blank_stops : (c : ℕ) → is_blank c ≡ true → goes_on c ≡ false
-blank_stops c is = ap (λ b. not ((b || c == 10 || c == 34 || c == 40 || c == 41 || c == 59) || c == 92)) is
-
-stop_before : (rest : List ℕ) (k : ℕ) → is_blank (get_or rest k 0) ≡ true → (k < prefix_len goes_on rest) ⊎ (prefix_len goes_on rest ≤ k) → prefix_len goes_on rest ≤ k
-stop_before rest k is (inl less) = absurd (let clash : true ≡ false = sym (prefix_len_passes goes_on rest k 0 less) ∙ blank_stops (get_or rest k 0) is in cc)
-stop_before rest k is (inr within) = within
-
--- past the first of them and the blank after it
-row_left : (rest : List ℕ) (n k : ℕ) → n + 1 < k → k ≤ length rest → All IsInRow (take k rest) → All IsInRow (take (k - (n + 1)) (drop (n + 1) rest))
-row_left rest n k less within row =
-    All-from_get_or IsInRow (take (k - (n + 1)) (drop (n + 1) rest)) 0 (λ i below.
-    let here : i < k - (n + 1) = omega (arith, below, length-take (k - (n + 1)) (drop (n + 1) rest)) in
-    let inside : n + 1 + i < k = omega (arith, here, less) in
-    let same : get_or (take (k - (n + 1)) (drop (n + 1) rest)) i 0 ≡ get_or (take k rest) (n + 1 + i) 0 =
-    get_or-take (k - (n + 1)) (drop (n + 1) rest) i 0 here ∙ get_or-drop (n + 1) rest i 0 ∙ sym (get_or-take k rest (n + 1 + i) 0 inside) in
-    subst IsInRow (sym same) (All-get_or IsInRow (take k rest) (n + 1 + i) 0 (omega (arith, inside, within, length-take k rest)) row))
-
-pub passed_row : (fuel : ℕ) (octets rest : List ℕ) (depth feeds k : ℕ) → k ≤ fuel → Walked octets rest depth feeds false [] → k ≤ length rest → All IsInRow (take k rest) → 0 < k → is_blank (get_or rest (k - 1) 0) ≡ true → Walked octets (drop k rest) depth feeds false []
-passed_row zero octets rest depth feeds k fits so_far within row some last = absurd (omega (arith, fits, some))
-passed_row (suc fuel) octets rest depth feeds k fits so_far within row some last =
-    let n : ℕ = prefix_len goes_on rest in
-    let less : n < k = omega (arith, some, stop_before rest (k - 1) last (cases_lt (k - 1) n)) in
-    let c : ℕ = get_or rest n 0 in
-    let first : drop n rest ≡ c ∷ drop (n + 1) rest = first_at rest n (omega (arith, less, within)) in
-    let stops : stops_bare c ≡ true = subst (EndsAt stops_bare) first (prefix_stops rest n refl).2 in
-    let is : is_blank c ≡ true = blank_in_row c (subst IsInRow (get_or-take k rest n 0 less) (All-get_or IsInRow (take k rest) n 0 (omega (arith, less, within, length-take k rest)) row)) stops in
-    let bare_passed = walked_bare octets rest (take n rest) (drop n rest) (drop (n + 1) rest) depth feeds c n false [] [] so_far refl refl refl first (no_escape_stop c is) (λ e. absurd (let clash : false ≡ true = e in cc)) in
-    let next = walked_blank octets (drop n rest) (drop (n + 1) rest) depth feeds c false [] bare_passed first is in
-    elim (cases_lt (n + 1) k) [
-      | inl more ↦
-          let left : get_or (drop (n + 1) rest) (k - (n + 1) - 1) 0 ≡ get_or rest (k - 1) 0 = get_or-drop (n + 1) rest (k - (n + 1) - 1) 0 ∙ ap (λ i. get_or rest i 0) (omega (arith, more)) in
-          let all : drop (k - (n + 1)) (drop (n + 1) rest) ≡ drop k rest = drop-drop (k - (n + 1)) (n + 1) rest ∙ ap (λ i. drop i rest) (omega (arith, more)) in
-          subst (λ t. Walked octets t depth feeds false []) all
-          (passed_row fuel octets (drop (n + 1) rest) depth feeds (k - (n + 1)) (omega (arith, fits)) next (omega (arith, within, length-drop (n + 1) rest)) (row_left rest n k more within row) (omega (arith, more)) (ap is_blank left ∙ last))
-      | inr done ↦ subst (λ t. Walked octets t depth feeds false []) (ap (λ i. drop i rest) (omega (arith, done, less))) next
-    ]
-
-row_front : (rest : List ℕ) (m k : ℕ) → k ≤ m → m ≤ length rest → All IsInRow (take m rest) → All IsInRow (take k rest)
-row_front rest m k less within row =
-    All-from_get_or IsInRow (take k rest) 0 (λ i below.
-    let here : i < k = omega (arith, below, length-take k rest) in
-    let same : get_or (take k rest) i 0 ≡ get_or (take m rest) i 0 = get_or-take k rest i 0 here ∙ sym (get_or-take m rest i 0 (omega (arith, here, less))) in
-    subst IsInRow (sym same) (All-get_or IsInRow (take m rest) i 0 (omega (arith, here, less, within, length-take m rest)) row))
-
-pub stands_past : (octets rest row : List ℕ) (from to : At) (m k : ℕ) → StandsAt octets from false [] → rest ≡ drop from.start octets → m ≤ length rest → All IsInRow (take m rest) → row ≡ take m rest → k ≤ length row → 0 < k → is_blank (get_or row (k - 1) 0) ≡ true → to.start ≡ from.start + k → to.seen ≡ from.start + k → to.depth ≡ from.depth → to.feeds ≡ from.feeds → StandsAt octets to false []
-stands_past octets rest row from to m k stands back fits in_row row_is within some last start seen depth feeds =
-    let short : k ≤ m = omega (arith, within, ap length row_is, length-take m rest) in
-    let so_far : Walked octets rest from.depth from.feeds false [] = subst (λ t. Walked octets t from.depth from.feeds false []) (sym back) stands.walked in
-    let blank_is : is_blank (get_or rest (k - 1) 0) ≡ true = ap is_blank (sym (ap (λ t. get_or t (k - 1) 0) row_is ∙ get_or-take m rest (k - 1) 0 (omega (arith, short, some)))) ∙ last in
-    let passed : Walked octets (drop k rest) from.depth from.feeds false [] = passed_row k octets rest from.depth from.feeds k (omega arith) so_far (omega (arith, short, fits)) (row_front rest m k short fits in_row) some blank_is in
-    let here : drop k rest ≡ drop to.start octets = ap (drop k) back ∙ drop-drop k from.start octets ∙ ap (λ n. drop n octets) (sym start) in
-    record {
-      walked = rw (depth, feeds) (subst (λ t. Walked octets t from.depth from.feeds false []) here passed);
-      seen = subst (IsSeen (drop to.start octets)) (omega (arith, start, seen)) (none_seen (drop to.start octets));
-      within = omega (arith, start, short, fits, ap length back, length-drop from.start octets, stands.within);
-      order = omega (arith, start, seen);
-    }
 
 -- ---- a token that isn't ended, or breaks
 

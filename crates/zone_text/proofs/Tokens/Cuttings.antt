@@ -172,8 +172,6 @@ pub front_stops : (depth : ℕ) (octets : List ℕ) (fault : Option Fault) → E
 unfolding front_of
 front_stops depth octets fault ends = search (rules, broken_front)
 
-pub ruleset comment_parts = (comment_dropped, comment_each, comment_ends, comment_whole)
-
 -- ---- which token may follow which, by the octets
 
 -- a written octet stands at the beginning

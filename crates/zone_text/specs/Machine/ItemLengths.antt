@@ -1,5 +1,5 @@
 -- How far an item goes, as it is looked for from the left (RFC 1035 5.1).
-use Rattle.std.specs.Prelude.{◌≡◌, ℕ, List, [], ◌∷◌, ◌==◌, ◌||◌, Bool, false, true}
+use Rattle.std.specs.Prelude.{◌≡◌, ℕ, List, [], ◌∷◌, ◌==◌, ◌||◌, Bool, true}
 use Rattle.zone_rdata.specs.Strings.{is_quote}
 use Rattle.zone_text.specs.Tokens.{ends_item}
 use Rattle.zone_text.specs.declared.items.Extent.{Extent}
@@ -17,14 +17,6 @@ stops_within extent c = ends_within extent c || c == 92
 -- of a bare item
 abbrev pub stops_bare : ℕ → Bool
 stops_bare c = ends_item c || c == 92
-
--- what ends a row of bare items and blanks: all that stops a bare item but blanks
-abbrev pub ends_row : ℕ → Bool
-ends_row c = c == 10 || c == 34 || c == 40 || c == 41 || c == 59 || c == 92
-
--- an octet of a row
-abbrev pub IsInRow : ℕ → Type 0
-IsInRow c = ends_row c ≡ false
 
 -- the text ends, or begins with an octet that ends what is before it
 abbrev pub EndsAt : (ℕ → Bool) → List ℕ → Type 0

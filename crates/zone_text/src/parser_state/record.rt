@@ -16,7 +16,7 @@ use crate::laws::entry::lower_laws;
 use crate::words::{split_bare, words_of};
 use std::alloc::AllocError;
 use zone_rdata::{
-    Cause, Class, Item, Kind, MAX_TTL, NarrowFailing, PendingRecords, Place, RecordQueue, RrRef,
+    Cause, Class, Item, Kind, MAX_TTL, NarrowFailing, PendingRecords, Place, RecordQueue,
 };
 
 /// What a record states after its owner.
@@ -93,8 +93,7 @@ impl ParserState {
         if ttl > MAX_TTL {
             return Err(NarrowFailing::of(Cause::BadTtl));
         }
-        let rr = RrRef::of_parts(owner.lend(), ttl, self.rdata.lend());
-        others.push(&rr, place)?;
+        others.push_exchanged(owner.lend(), ttl, &mut self.rdata, place)?;
         self.class = head.class;
         self.last_ttl = head.ttl.or(self.last_ttl);
         self.minimum = minimum;

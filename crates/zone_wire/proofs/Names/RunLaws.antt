@@ -1,26 +1,17 @@
--- Runs of labels and the names that they lead through, and labels that are copied into a room.
-use Rattle.zone_wire.proofs.Common.{common_steps, AllByRecursion-append, At, Bytes, IsCasedLabel, IsLabelAt, IsName, IsNamed, IsPointerAt, IsRun, List, Option, Some, Spot, [], ap, append-nil, append_assoc, ap₂, arith, at_pointer, at_root, bytes_each, drop, folded, folded_label, frames_push, label, label_at, labels_of, labels_of-open_cased, length, length-append, length-drop, length-take-le, map-append, octets_between, pointer, refl, root, slice_index, standing_in, suc, sym, take, unwrap_or, with_length, ℕ, ◌++◌, ◌+◌, ◌<◌, ◌∙◌, ◌∷◌, ◌≡◌, ◌≤◌, AllByRecursion, HoldsLabels, HoldsLabels-frames, HoldsLabels-nil, IsLabel, drop-drop, drop_at, drop_more, flat_map, flat_map-append, folded_frames, folded_labels, folded_octet, get_or, labels_of-none, labels_of-open, length-map, length-put_chunk, length-set, map, subst, take-add, take-map, take-take, take_at, take_more_put_chunk, take_more_set, ◌-◌}
+-- Runs of labels, the walk that gathers them, and labels that are copied into a room.
+use Rattle.zone_wire.proofs.Common.{common_steps, AllByRecursion-append, Bytes, IsCasedLabel, IsLabelAt, IsName, IsRun, List, Option, Some, Spot, [], ap, append-nil, append_assoc, ap₂, arith, at_pointer, bytes_each, drop, folded, folded_label, frames_push, label_at, labels_of, labels_of-open_cased, length, length-append, length-drop, length-take-le, map-append, octets_between, refl, standing_in, sym, take, unwrap_or, with_length, ℕ, ◌++◌, ◌+◌, ◌<◌, ◌∙◌, ◌∷◌, ◌≡◌, ◌≤◌, AllByRecursion, HoldsLabels, HoldsLabels-frames, HoldsLabels-nil, IsLabel, drop-drop, drop_at, drop_more, flat_map, flat_map-append, folded_frames, folded_labels, folded_octet, get_or, labels_of-none, labels_of-open, length-map, length-put_chunk, length-set, map, subst, take-add, take-map, take-take, take_at, take_more_put_chunk, take_more_set, ◌-◌, None, outset, past_label, past_pointer, IsRoom, at_label}
 use Rattle.zone_wire.proofs.Fields.FieldReading.{between_first, between_join, part_len}
-use Rattle.zone_wire.proofs.Names.Spots.{standing_shows}
-use Rattle.zone_wire.proofs.Names.Walking.{drop_each, take_each, wire-octets, carries_start, spots_show}
+use Rattle.zone_wire.proofs.Names.Walking.{Carries, carries_label, carries_pointer, carries_start, drop_each, label_octets, label_shows, pointer_shows, spots_show, take_each, wire-octets}
 use Rattle.std.specs.Char.{to_ascii_lowercase}
-use Rattle.zone_wire.specs.Machine.Room.{IsRoom}
 use lib.Lanes.{chunk, put_chunk}
 use lib.ListN.{set}
 
--- labels were met from an offset on, and after pointers a run begins that leads on
-pub record Leads (message : List ℕ) (offset start : ℕ) (pointers : ℕ) (end : Option ℕ)
-    (labels : List (List ℕ)) : Type 0 where
-  pub steps : ℕ
-  pub few : pointers ≤ 128
-  pub on : (rest : List (List ℕ)) (past more others : ℕ) → At message start start rest past more others
-      → At message offset offset (labels ++ rest) (unwrap_or end past) (steps + more)
-      (pointers + others)
+-- a room of no label
+pub no_labels : labels_of [] ≡ []
+no_labels = labels_of-none _ refl
 
-same_at : {message : List ℕ} {offset bound : ℕ} {labels other : List (List ℕ)} {end steps more pointers others : ℕ} → labels ≡ other → steps ≡ more → pointers ≡ others
-    → At message offset bound labels end steps pointers → At message offset bound other end more others
-same_at {message} {offset} {bound} {labels} {other} {end} {steps} {more} {pointers} {others} a b c h =
-    grind (arith, common_steps)
+pub empty_room : (octets : List ℕ) → 17 ≤ length octets → IsRoom octets 0
+empty_room octets room = record { within = room; holds = HoldsLabels-nil _ refl }
 
 -- the octets of a label, as a part of the message
 abbrev written : List ℕ → ℕ → ℕ → List ℕ
@@ -49,68 +40,75 @@ run_more message start past size each run here =
           ∙ ap₂ (λ (s t : List ℕ). s ++ t) run.octets (label_part message past size here)
           ∙ sym (frames_push run.labels raw);
       each = AllByRecursion-append IsCasedLabel run.labels (raw ∷ []) run.each (cased message past size each here, tt);
-      leads = λ bound rest end steps pointers h.
-          same_at
-          (sym (ap (λ t. t ++ rest) (map-append folded_label run.labels (raw ∷ [])) ∙ append_assoc (folded run.labels) (folded_label raw ∷ []) rest))
-          (omega (arith, length-append run.labels (raw ∷ []))) refl
-          (run.leads bound (label_at message past size ∷ rest) end (suc steps) pointers (label past bound size rest end steps pointers here h));
     }
 
 -- the labels of a run are those that its octets hold
 pub run_labels : {message : List ℕ} {start past : ℕ} → (run : IsRun message start past) → labels_of (octets_between message start past) ≡ run.labels
 run_labels run = ap labels_of run.octets ∙ labels_of-open_cased run.labels run.each
 
--- a label alone
-pub record Alone (message : List ℕ) (offset size : ℕ) : Type 0 where
-  pub run : IsRun message offset (offset + 1 + size)
-  pub folds : folded (labels_of (octets_between message offset (offset + 1 + size))) ≡ label_at message offset size ∷ []
+-- ---- the walk of a name so far: the labels of the room, and after them those of the run that it stands in
+pub record Gathers (message : List ℕ) (offset : ℕ) (spot : Spot) (labels : List (List ℕ)) (end : Option ℕ) (steps : ℕ) : Type 0 where
+  pub all : List (List ℕ)
+  pub carries : Carries message offset spot all end steps
+  pub run : spot.offset ≤ length message → IsRun message spot.bound spot.offset
+  pub joins : spot.offset ≤ length message → all ≡ labels ++ folded (labels_of (octets_between message spot.bound spot.offset))
 
-pub run_alone : (message : List ℕ) (offset size : ℕ) → Bytes message → IsLabelAt message offset size → Alone message offset size
-run_alone message offset size each here =
-    let raw = written message offset size in
-    record {
-      run = run_more message offset offset size each (run_start message offset (omega (arith, here.inside))) here;
-      folds = ap folded (ap labels_of (label_part message offset size here ∙ sym (append-nil (with_length raw)))
-          ∙ labels_of-open_cased (raw ∷ []) (cased message offset size each here, tt));
-    }
+no_run : (message : List ℕ) (offset : ℕ) (labels : List (List ℕ)) → labels ≡ labels ++ folded (labels_of (octets_between message offset offset))
+no_run message offset labels = grind (arith, common_steps, no_labels, append-nil)
 
-module _ {message : List ℕ} {offset start past pointers : ℕ} {end : Option ℕ} {labels : List (List ℕ)}
-    (met : Leads message offset start pointers end labels) (run : IsRun message start past) where
-  -- where a pointer after a run leads
-  pub leads_pointer : (target : ℕ) → IsPointerAt message past start target → pointers < 128
-      → Leads message offset target (pointers + 1) (Some (unwrap_or end (past + 2))) (labels ++ folded run.labels)
-  leads_pointer target here few = record {
-    steps = met.steps + (length run.labels + 1);
-    few = omega arith;
-    on = λ rest last more others h.
-        same_at (sym (append_assoc labels (folded run.labels) rest)) (omega arith) (omega arith)
-        (met.on (folded run.labels ++ rest) (past + 2) (length run.labels + suc more) (suc others)
-        (run.leads start rest (past + 2) (suc more) (suc others) (pointer past start target rest last more others here h)));
-  }
+pub gathers_start : (message : List ℕ) (offset : ℕ) → Gathers message offset (outset offset) [] None 0
+gathers_start message offset = record {
+  all = [];
+  carries = carries_start message offset;
+  run = run_start message offset;
+  joins = λ _. no_run message offset [];
+}
 
-  -- the root after a run
-  pub leads_root : past < length message → slice_index message past ≡ 0 → IsName (labels ++ folded run.labels)
-      → IsNamed message offset (labels ++ folded run.labels) (unwrap_or end (past + 1))
-  leads_root inside first name = record {
-    steps = met.steps + (length run.labels + 1);
-    pointers = pointers + 0;
-    name = record {
-      at = same_at (ap (λ t. labels ++ t) (append-nil (folded run.labels))) refl refl
-          (met.on (folded run.labels ++ []) (past + 1) (length run.labels + 1) 0 (run.leads start [] (past + 1) 1 0 (root past start inside first)));
-      name = name;
-      few = omega (arith, met.few);
-    };
-  }
+module _ {message : List ℕ} {offset : ℕ} {spot : Spot} {labels : List (List ℕ)} {end : Option ℕ} {steps : ℕ} (met : Gathers message offset spot labels end steps) where
+  -- a run that ends inside the message fits in the room
+  pub run_fits : (within : spot.offset ≤ length message) → label_octets labels + (spot.offset - spot.bound) < 255
+  run_fits within =
+      let run = met.run within in
+      let more = labels_of (octets_between message spot.bound spot.offset) in
+      omega (
+        arith,
+        met.carries.short,
+        met.carries.octets,
+        ap label_octets (met.joins within) ∙ ap length (flat_map-append with_length labels (folded more)) ∙ length-append (flat_map with_length labels) (flat_map with_length (folded more)),
+        ap (λ t. length (flat_map with_length (folded t))) (run_labels run) ∙ ap length (sym (folded_frames run.labels run.each)) ∙ length-map (flat_map with_length run.labels) folded_octet ∙ ap length (sym run.octets),
+        part_len message spot.bound spot.offset run.inside,
+      )
 
--- ---- what stands after a run
+  -- after a label
+  pub gathers_label : (size : ℕ) → Bytes message → standing_in message spot ≡ Some (at_label size) → Gathers message offset (past_label spot size) labels end (steps + 1)
+  unfolding run_more
+  gathers_label size each e =
+      let here = (label_shows message spot size e).0 in
+      let within : spot.offset ≤ length message = omega (arith, here.inside) in
+      let run = met.run within in
+      let raw = written message spot.offset size in
+      let longer = run_more message spot.bound spot.offset size each run here in
+      record {
+        all = met.all ++ label_at message spot.offset size ∷ [];
+        carries = carries_label size met.carries e;
+        run = λ _. longer;
+        joins = λ _. ap (λ t. t ++ label_at message spot.offset size ∷ []) (met.joins within ∙ ap (λ t. labels ++ folded t) (run_labels run))
+            ∙ append_assoc labels (folded run.labels) (folded_label raw ∷ [])
+            ∙ ap (λ t. labels ++ t) (sym (map-append folded_label run.labels (raw ∷ [])) ∙ ap folded (sym (run_labels longer)));
+      }
 
-pub root_stands : (message : List ℕ) (held spot : Spot) → held ≡ spot → Some at_root ≡ standing_in message held
-    → (spot.offset < length message) × (slice_index message spot.offset ≡ 0)
-root_stands message held spot same e = grind (arith, at_root, standing_shows)
-
-pub pointer_stands : (message : List ℕ) (held spot : Spot) (target : ℕ) → held ≡ spot → Some (at_pointer target) ≡ standing_in message held
-    → IsPointerAt message spot.offset spot.bound target × (spot.pointers < 128)
-pointer_stands message held spot target same e = grind (arith, at_pointer, standing_shows)
+  -- where a pointer leads, the run before it put in the room
+  pub gathers_pointer : (target : ℕ) → standing_in message spot ≡ Some (at_pointer target)
+      → Gathers message offset (past_pointer spot target) (labels ++ folded (labels_of (octets_between message spot.bound spot.offset))) (Some (unwrap_or end (spot.offset + 2))) (steps + 1)
+  gathers_pointer target e =
+      let here = (pointer_shows message spot target e).0 in
+      let within : spot.offset ≤ length message = omega (arith, here.inside) in
+      record {
+        all = met.all;
+        carries = carries_pointer target met.carries e;
+        run = λ inside. run_start message target inside;
+        joins = λ _. met.joins within ∙ no_run message target (labels ++ folded (labels_of (octets_between message spot.bound spot.offset)));
+      }
 
 -- ---- labels that are copied into a room, and the name that is made of them
 -- octets with those of further labels after them, in lower case
@@ -136,13 +134,17 @@ grown front part new labels holds each e room is =
     }
 
 -- the octets of a room with those of a run after them
-pub pushed : (message octets new : List ℕ) (len start past : ℕ) → IsRoom octets len → (run : IsRun message start past)
-    → len + (past - start) < 255
+pub pushed : (message octets new : List ℕ) (len start past : ℕ) (labels : List (List ℕ)) → IsRoom octets len → labels_of (take len octets) ≡ labels
+    → (run : IsRun message start past) → label_octets labels + (past - start) < 255
     → take (len + (past - start)) new ≡ take len octets ++ map folded_octet (octets_between message start past)
-    → Grown (take len octets) (octets_between message start past) (take (len + (past - start)) new)
-pushed message octets new len start past room run fits is =
-    grown (take len octets) (octets_between message start past) (take (len + (past - start)) new) run.labels room.holds run.each run.octets
-    (omega (arith, fits, part_len message start past run.inside, length-take-le len octets (omega (arith, room.within)))) is
+    → Grown (take len octets) (octets_between message start past) (take (len + (past - start)) new) × (len + (past - start) < 255)
+pushed message octets new len start past labels room held run fits is =
+    let long : length (take len octets) ≡ len = length-take-le len octets (omega (arith, room.within)) in
+    let size : label_octets labels ≡ len = ap label_octets (sym held) ∙ ap length room.holds.whole ∙ long in (
+      grown (take len octets) (octets_between message start past) (take (len + (past - start)) new) run.labels room.holds run.each run.octets
+          (omega (arith, fits, size, long, part_len message start past run.inside)) is,
+      omega (arith, fits, size),
+    )
 
 -- so many octets of a message were copied to a place of a room
 pub record Copied (message : List ℕ) (start : ℕ) (old now : List ℕ) (at done : ℕ) : Type 0 where
@@ -191,17 +193,10 @@ copied_all message start old now at done size c le room =
     ∙ ap₂ (λ (s t : List ℕ). s ++ take size t) (take_at front back at long) (drop_at front back at long)
     ∙ ap (λ t. front ++ t) (take-map folded_octet size (take done from) ∙ ap (map folded_octet) (take-take size done from le))
 
--- a room of no label
-pub empty_room : (octets : List ℕ) → 17 ≤ length octets → IsRoom octets 0
-empty_room octets room = record { within = room; holds = HoldsLabels-nil _ refl }
-
-pub no_labels : labels_of [] ≡ []
-no_labels = labels_of-none _ refl
-
 pub ruleset lanes_are_copied = (copied_all, copied_lanes, copied_start)
 
 pub ruleset octets_are_copied = (copied_all, copied_octet, copied_start)
 
-pub ruleset name_is_walked = (run_alone, carries_start, spots_show)
+pub ruleset name_is_walked = (gathers_start, spots_show)
 
 pub ruleset empty_rooms = (no_labels, empty_room)

@@ -1,6 +1,7 @@
 -- The records of further types, as the code finds them.
-use Rattle.std.specs.Prelude.{◌≡◌, ◌↔◌, ℕ, ◌<◌, Bool, true, List, [], ◌∷◌, length, map, Some}
-use Rattle.std.specs.List.{AllByRecursion}
+use Rattle.std.specs.Prelude.{◌≡◌, ◌==◌, ◌↔◌, ℕ, ◌<◌, Bool, true, List, [], ◌∷◌, length, map, Some}
+use Rattle.std.specs.List.{AllByRecursion, count_by}
+use Rattle.zone_rdata.specs.Item as raw_item
 use Rattle.zone_rdata.specs.Item.{RawItem, bare, raw, IsGeneric}
 use Rattle.zone_text.specs.Entries.{Entry}
 use Rattle.zone_text.specs.Records.{HasValue}
@@ -53,3 +54,12 @@ pub record IsRecordOf (before : List Entry) (entry : Entry) (found : FurtherReco
   pub is : IsFurtherRecord before entry found.word.now all (further_of found.further.now)
   pub generic : IsGeneric all ↔ IsGeneric (map raw found.items.now)
   pub few : length entry.items < most_items → all ≡ map raw found.items.now
+
+-- ---- line feeds in items: a bare one has none
+
+abbrev pub quoted_feeds : RawItem → ℕ
+quoted_feeds (raw_item.bare text) = 0
+quoted_feeds (raw_item.quoted text) = count_by (λ c. c == 10) text
+
+abbrev pub QuotesAreOnOneLine : List RawItem → Type 0
+QuotesAreOnOneLine items = AllByRecursion (λ item. quoted_feeds item ≡ 0) items

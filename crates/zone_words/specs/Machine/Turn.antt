@@ -6,8 +6,8 @@ use Rattle.zone_rdata.specs.Item.{RawItem, raw, IsGeneric}
 use Rattle.zone_text.specs.Entries.{Entry, entry_of, item_of}
 use Rattle.zone_text.specs.Kept.{AreKept}
 use Rattle.zone_text.specs.Tokens.{Token, Cuts, AreTokensOf, text}
-use Rattle.zone_words.specs.Entry.{AreOnOneLine, BecomesUnder, TokensFail, TokensSay, most_items}
-use Rattle.zone_words.specs.Machine.Further.{IsRecordOf}
+use Rattle.zone_words.specs.Entry.{BecomesUnder, TokensFail, TokensSay, most_items}
+use Rattle.zone_words.specs.Machine.Further.{IsRecordOf, QuotesAreOnOneLine}
 use Rattle.zone_words.specs.Machine.KnownItems.{StandsAround}
 use Rattle.zone_words.specs.Inherited.{IsInherited}
 use Rattle.zone_words.specs.Origin.{IsCasedOrigin}
@@ -74,7 +74,7 @@ TakesRecordsTurn octets found kept line above stated turn =
 -- all items are kept, they are on one line, and the data isn't in the generic form
 pub record AreInWords (found : FurtherRecord) (kept : List RawItem) : Type 0 where
   pub few : length kept < most_items
-  pub on_one_line : AreOnOneLine (map raw found.items.now)
+  pub on_one_line : QuotesAreOnOneLine (map raw found.items.now)
   pub in_words : IsGeneric (map raw found.items.now) → ⊥
 
 -- these octets stand around the type's word, where these items are all

@@ -12,9 +12,9 @@ overflow_add-result c =
     let begins = begins_with c.args.name.now c.put.new.room c.requires.name (put_front c.args.room.now c.args.name.now c.put.new.room (omega (arith, c.requires.room)) c.put.ensures) in
     omega (arith, c.write_dots-labels.ensures.labels, few_labels (labels_of c.put.new.room) begins.name)
 
-pub returns-in-Some : goal.returns-in-Some
-returns-in-Some c = λ same.
-    let saw = c.in-Some.ensures in
-    spelled_whole c.args.name.now c.put.new.room c.write_dots-labels.new.octets c.write_dots-labels.result saw.0 c.in-Some.dots c.requires.name c.requires.some
+pub returns : goal.returns
+returns c = λ same.
+    let saw = c.count_odd.ensures in
+    spelled_whole c.args.name.now c.put.new.room c.write_dots-labels.new.octets c.write_dots-labels.result saw.0 c.count_odd.result c.requires.name c.requires.some
     (put_front c.args.room.now c.args.name.now c.put.new.room (omega (arith, c.requires.room)) c.put.ensures)
-    (c.write_dots-labels.ensures.dots, c.write_dots-labels.ensures.labels) saw.1 saw.3 saw.4 (eqb-true _ _ same)
+    (c.write_dots-labels.ensures.dots, c.write_dots-labels.ensures.labels) saw.1 saw.3 (eqb-true _ _ same)

@@ -1,8 +1,8 @@
 use Rattle.zone_set.proofs.Common.{AllByRecursion, AreNeighbours, IsEntry, all_records, length, ◌∷◌}
 use Rattle.zone_set.proofs.bulk.are_neighbours.Given as goal
 
-abbrev pub ghost-stand_next : goal.ghost-stand_next
-ghost-stand_next g a = g.base
+abbrev pub ghost-standing : goal.ghost-standing
+ghost-standing g a = g.base
 
 -- if the last entry looked at and those that are left are neighbours, all are
 abbrev pub invariant-loop-next : goal.invariant-loop-next

@@ -9,5 +9,5 @@ returns-then-x-y c =
 
 pub returns : goal.returns
 returns c =
-    c.order_after.ensures ∙ sym (then_same c.from_be_bytes-x.result c.from_be_bytes-y.result _ c.if-x-y.false)
+    c.cmp-2.ensures ∙ sym (then_same c.from_be_bytes-x.result c.from_be_bytes-y.result _ c.if-x-y.false)
     ∙ sym (eights_first _ _ c.args.a.now c.args.b.now _ _ c.in-Some.more.now c.in-Some-split_first_chunk.others.now c.from_be_bytes-x.ensures c.from_be_bytes-y.ensures c.are_octets.ensures.each c.are_octets-2.ensures.each c.in-Some.ensures.cases c.in-Some-split_first_chunk.ensures.cases)

@@ -1,9 +1,9 @@
-use Rattle.zone_text.proofs.Common.{AreBlankLines, length, ◌+◌, ◌≤◌}
+use Rattle.zone_text.proofs.Common.{AreEmptyLines, length, ◌+◌, ◌≤◌}
 use Rattle.zone_text.proofs.blank.empty_lines.Given as goal
 
 abbrev pub invariant-loop-after : goal.invariant-loop-after
 invariant-loop-after l = record {
-  are : AreBlankLines l.octets l.rest l.count;
+  are : AreEmptyLines l.octets l.rest l.count;
   few : l.count + length l.rest ≤ length l.octets;
 }
 

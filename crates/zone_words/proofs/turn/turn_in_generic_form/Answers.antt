@@ -1,5 +1,5 @@
 use Rattle.zone_words.proofs.Common.{arith, both_ways, length-map, map, raw}
-use Rattle.zone_words.proofs.Turns.{renamed_there, stays_generic}
+use Rattle.zone_words.proofs.Turns.{quotes_too, renamed_there, stays_generic}
 use Rattle.zone_words.proofs.turn.turn_in_generic_form.Goals as goal
 
 pub returns-then-items-ge-MOST_ITEMS : goal.returns-then-items-ge-MOST_ITEMS
@@ -15,7 +15,7 @@ returns-then-not-has_mnemonic c line above stated generic origin before tokens c
 pub returns-then-not-are_on_one_line : goal.returns-then-not-are_on_one_line
 returns-then-not-are_on_one_line c line above stated generic origin before tokens cut there =
     stays_generic origin before line tokens c.args.found.now (map raw c.args.items.now) above stated there generic
-    (λ few same one. both_ways c.are_on_one_line.result c.if-not-are_on_one_line.true (c.are_on_one_line.ensures.1 one))
+    (λ few same one. both_ways c.are_on_one_line.result c.if-not-are_on_one_line.true (c.are_on_one_line.ensures.1 (quotes_too (map raw c.args.found.now.items.now) one)))
 
 pub returns : goal.returns
 returns c line above stated generic origin before tokens cut there =

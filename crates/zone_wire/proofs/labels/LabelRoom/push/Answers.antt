@@ -4,14 +4,10 @@ use Rattle.zone_wire.proofs.labels.LabelRoom.push.Goals as goal
 
 pub invariant_of-self : goal.invariant_of-self
 invariant_of-self c =
-    let more = pushed c.args.message.now c.self.inside.octets c.copy_folded.new.room c.self.inside.len c.args.start c.args.past c.self.invariant c.requires (omega (arith, c.if-size-self.false)) c.copy_folded.ensures in
-    record { within = omega (arith, c.if-size-self.false, c.copy_folded.auto.room, c.self.ranges); holds = more.holds }
+    let more = pushed c.args.message.now c.self.inside.octets c.copy_folded.new.room c.self.inside.len c.args.start c.args.past c.args.self.now c.self.invariant c.self.view_is c.requires.run c.requires.fits c.copy_folded.ensures in
+    record { within = omega (arith, more.1, c.copy_folded.auto.room, c.self.ranges); holds = more.0.holds }
 
 pub returns : goal.returns
 returns c =
-    let more = pushed c.args.message.now c.self.inside.octets c.copy_folded.new.room c.self.inside.len c.args.start c.args.past c.self.invariant c.requires (omega (arith, c.if-size-self.false)) c.copy_folded.ensures in
-    record {
-      labels = λ _. more.gives ∙ ap (λ t. t ++ folded (labels_of (octets_between c.args.message.now c.args.start c.args.past))) c.self.view_is;
-      name = λ _. more.holds.name;
-      full = λ e. cc;
-    }
+    let more = pushed c.args.message.now c.self.inside.octets c.copy_folded.new.room c.self.inside.len c.args.start c.args.past c.args.self.now c.self.invariant c.self.view_is c.requires.run c.requires.fits c.copy_folded.ensures in
+    more.0.gives ∙ ap (λ t. t ++ folded (labels_of (octets_between c.args.message.now c.args.start c.args.past))) c.self.view_is

@@ -8,5 +8,5 @@ returns-in_err-push_data-clause-fault c =
     (λ fault bad. data_is_refused _ c.args.self.now c.self.view_is c.self.inside.fields.offset c.are_octets.ensures.at c.self.invariant fault bad)
     c.in_err-push_data.ensures.fault
 
-pub returns-in-Some-clause-found : goal.returns-in-Some-clause-found
-returns-in-Some-clause-found c = data_is_read _ c.args.self.now c.self.view_is c.self.inside.fields.offset c.are_octets.ensures.at c.self.invariant c.push_data.new.builder c.in-Some.rdata.octets c.in_ok-push_data.ensures.found (ap (λ (d : Data). d.octets) c.in-Some.ensures.some)
+pub returns-in-Ok-clause-found : goal.returns-in-Ok-clause-found
+returns-in-Ok-clause-found c = data_is_read _ c.args.self.now c.self.view_is c.self.inside.fields.offset c.are_octets.ensures.at c.self.invariant c.push_data.new.builder c.in-Ok.rdata.octets c.in_ok-push_data.ensures.found (ap (λ (d : Data). d.octets) c.in-Ok.ensures.ok)

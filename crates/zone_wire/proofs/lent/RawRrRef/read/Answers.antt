@@ -16,5 +16,5 @@ returns-in_err-rdata-clause-only c =
 
 pub returns-clause-only : goal.returns-clause-only
 returns-clause-only c =
-    let states : AnswerStates c.args.self.now.octets c.args.self.now.at c.in_ok-to_rr.field-0 = search rules in
-    only_answer _ c.args.self.now c.self.view_is c.self.inside.fields.offset c.are_octets.ensures.at c.self.invariant (Ok c.in_ok-to_rr.field-0) states tt
+    let states : AnswerStates c.args.self.now.octets c.args.self.now.at c.of_parts.result = search rules in
+    only_answer _ c.args.self.now c.self.view_is c.self.inside.fields.offset c.are_octets.ensures.at c.self.invariant (Ok c.of_parts.result) states tt

@@ -11,7 +11,7 @@ returns-then-is_soa-clause-gains c = λ questions placed among.
 pub returns-then-is_opening-clause-gains : goal.returns-then-is_opening-clause-gains
 returns-then-is_opening-clause-gains c = λ questions placed among.
     let none : is_some c.args.self.now.opening ≡ false = grind arith in
-    opening_gains questions placed c.args.rr c.args.offset c.args.self.now c.hand_on.new.self c.open.new.self among none c.in_ok-hand_on.ensures.others (rw c.lend.ensures.record at c.in_ok-hand_on.ensures.items) c.open.ensures.opening c.open.ensures.zone c.open.ensures.others
+    opening_gains questions placed c.args.rr c.args.offset c.args.self.now (record c.args.self.now { decided = record c.args.self.now.decided { placed = c.push.new.self } }) c.open.new.self among none refl (rw c.lend.ensures.record at c.in_ok-push.ensures.appended) c.open.ensures.opening c.open.ensures.zone c.open.ensures.others
 
 pub returns-else-is_opening-clause-gains : goal.returns-else-is_opening-clause-gains
 returns-else-is_opening-clause-gains c = λ questions placed among.
@@ -20,4 +20,4 @@ returns-else-is_opening-clause-gains c = λ questions placed among.
       | else-not-is_opening-via-then-not-is_opening+else-is_soa w ↦ (let yes = w.is_soa.ensures.1 (w.kind.ensures ∙ soa) in let not_it = w.if-is_soa.false in let none : ⊥ = cc in none)
       | else-not-is_opening-via-else-not-is_opening w ↦ (let opens = w.if-not-is_opening.false in let closed = c.if-is_opening.false in let none : ⊥ = cc in none)
     ] in
-    other_gains questions placed c.args.rr c.args.offset c.args.self.now c.hand_on.new.self among some other c.in_ok-hand_on.ensures.others (rw c.lend.ensures.record at c.in_ok-hand_on.ensures.items)
+    other_gains questions placed c.args.rr c.args.offset c.args.self.now (record c.args.self.now { decided = record c.args.self.now.decided { placed = c.push.new.self } }) among some other refl (rw c.lend.ensures.record at c.in_ok-push.ensures.appended)
