@@ -29,7 +29,6 @@ pub use Rattle.zone_name.specs.Common.{AreOctets}
 pub use Rattle.zone_name.specs.Name.{IsLabel, IsName, IsWithin, labels_of, wire}
 pub use Rattle.zone_name.specs.Order.{label_cmp, name_cmp}
 pub use Rattle.zone_rdata.proofs.Fields.FieldLaws.{AreLow, low_drop, low_take}
-pub use Rattle.zone_rdata.proofs.Lists.{bytes_each}
 pub use Rattle.zone_rdata.specs.Lent.{placed_of, record_of}
 pub use Rattle.zone_rdata.specs.Order.{data_cmp}
 pub use Rattle.zone_rdata.specs.Record.{Data, IsRecord, Record, data_of}

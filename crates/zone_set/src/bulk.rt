@@ -56,16 +56,7 @@ fn sort_and_look(class: Class, base_len: usize, octets: &[u8], entries: &mut Vec
 {
     // The root's octet is no digit, and a hint has seven after the base's.
     let front = base_len.saturating_add(6);
-    sort_runs(class, octets, entries.as_mut_slice(), front)
-}
-
-/// `sort_and_look` for hints that have the digits before one.
-fn sort_runs(class: Class, octets: &[u8], entries: &mut [Entry], front: usize) -> bool
-    ghost base: { Labels }
-    requires { AllByRecursion (IsEntry base class octets.now) entries.old }
-    ensures moved { IsPermutation entries.old entries.new }
-    ensures next { IsTrue result → AreNeighbours (all_records class octets.now entries.new) }
-{
+    let entries = entries.as_mut_slice();
     if put_runs(class, octets, entries, front) {
         return true;
     }

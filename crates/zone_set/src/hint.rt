@@ -18,6 +18,9 @@ const WITHIN: u64 = 2 << 57;
 /// The hint of an owner after the base, but for those at or below it.
 const AFTER: u64 = 3 << 57;
 
+/// What a digit counts that three to the base 273 follow.
+const THREE: u64 = 273 * 273 * 273;
+
 /// The highest of seven digits to the base 273.
 const HIGHEST: u64 = 273 * 273 * 273 * 273 * 273 * 273;
 
@@ -147,11 +150,7 @@ fn put_label(label: &[u8], after: u64) -> u64
         [octet] => put_alone(*octet, after),
         [octet, next, others @ ..] => match label.split_first_chunk::<7>() {
             Some((front, _)) => seven_digits(front),
-            None => put_two(
-                longer_digit(*octet),
-                *next as u64 + 1,
-                put_octets(others, after),
-            ),
+            None => put_longer(longer_digit(*octet), *next as u64 + 1, others, after),
         },
     }
 }
@@ -173,7 +172,8 @@ fn put_alone(octet: u8, after: u64) -> u64
 {
     match alone_digit(octet) {
         Some(digit) => put_digit(digit, after),
-        None => put_two(longer_digit(octet), 0, after),
+        // The end is 0.
+        None => longer_digit(octet) * HIGHEST + after / (273 * 273),
     }
 }
 
@@ -185,34 +185,32 @@ pub(crate) fn longer_digit(octet: u8) -> u64
     LONGER_DIGITS[octet as usize] as u64
 }
 
-/// Puts octets and the end of their label before the digits of a number, at most four. An octet counts
-/// one more, since the end is 0.
-fn put_octets(octets: &[u8], after: u64) -> u64
-    requires { length octets.now ≤ 4 }
-    ensures { IsPutBefore (octets_key octets.now) after result }
-{
-    match octets {
-        [] => put_digit(0, after),
-        [a] => put_two(*a as u64 + 1, 0, after),
-        [a, b] => put_two(*a as u64 + 1, *b as u64 + 1, put_digit(0, after)),
-        [a, b, c] => {
-            let after = put_two(*c as u64 + 1, 0, after);
-            put_two(*a as u64 + 1, *b as u64 + 1, after)
-        }
-        [a, b, c, d, ..] => {
-            let after = put_two(*c as u64 + 1, *d as u64 + 1, put_digit(0, after));
-            put_two(*a as u64 + 1, *b as u64 + 1, after)
-        }
-    }
-}
-
-/// Puts two digits before those of a number, of which the last two go.
-fn put_two(digit: u64, next: u64, after: u64) -> u64
+/// Puts two digits, octets and the end of their label before the digits of a number, at most seven. An
+/// octet counts one more, since the end is 0.
+fn put_longer(digit: u64, next: u64, octets: &[u8], after: u64) -> u64
     requires first { digit ≤ 272 }
     requires second { next ≤ 272 }
-    ensures { IsPutBefore (digit ∷ (next ∷ [])) after result }
+    requires few { length octets.now ≤ 4 }
+    ensures { IsPutBefore (digit ∷ (next ∷ octets_key octets.now)) after result }
 {
-    (digit * 273 + next) * (HIGHEST / 273) + after / (273 * 273)
+    // One division a label, by as many digits as are put.
+    let two = digit * 273 + next;
+    match octets {
+        [] => two * (THREE * 273 * 273) + after / THREE,
+        [a] => (two * 273 + *a as u64 + 1) * (THREE * 273) + after / (THREE * 273),
+        [a, b] => {
+            let four = (two * 273 + *a as u64 + 1) * 273 + *b as u64 + 1;
+            four * THREE + after / (THREE * 273 * 273)
+        }
+        [a, b, c, more @ ..] => {
+            let four = (two * 273 + *a as u64 + 1) * 273 + *b as u64 + 1;
+            let five = four * 273 + *c as u64 + 1;
+            match more {
+                [] => five * (273 * 273) + after / (THREE * THREE),
+                [d, ..] => (five * 273 + *d as u64 + 1) * 273,
+            }
+        }
+    }
 }
 
 /// Puts a digit before those of a number, of which the last one goes.

@@ -1,7 +1,6 @@
 -- Numbers of first digits: their order, their bound, and digits that are put before others.
-use Rattle.zone_set.proofs.Common.{◌≡◌, ℕ, zero, suc, ◌+◌, ◌*◌, ◌/◌, ◌^◌, ◌<◌, ◌≤◌, ◌∙◌, List, [], ◌∷◌, ◌++◌, length, take, drop, slice_index_or, ◌-◌, Ordering, Less, Equal, Greater, nat_cmp, refl, sym, ap, subst, arith, append_assoc, ranked, slice_cmp, ⊤, MatchOrdering, AreOctets, AllByRecursion-append, first_digits, AreDigits, IsPutBefore}
+use Rattle.zone_set.proofs.Common.{◌≡◌, ℕ, zero, suc, ◌+◌, ◌*◌, ◌/◌, ◌^◌, ◌<◌, ◌≤◌, List, [], ◌∷◌, ◌++◌, length, take, drop, slice_index_or, ◌-◌, Ordering, Less, Equal, Greater, nat_cmp, refl, sym, ap, subst, arith, ranked, slice_cmp, ⊤, MatchOrdering, first_digits, AreDigits, IsPutBefore}
 use Rattle.std.proofs.Math.Nat.{pow-suc, one-le-pow, mul-le-mul_right}
-use Rattle.zone_set.proofs.Hints.LabelKey.{octets_low}
 use Rattle.zone_set.proofs.Lists.Looking.{take_rest}
 use Rattle.zone_set.specs.Machine.LabelKey.{label_key, longer_digit, octets_key}
 
@@ -42,36 +41,9 @@ first_digits-enough (suc n) (c ∷ x) y long = ap (λ m. c * 273 ^ n + m) (first
 pub put_one : (d after : ℕ) → IsPutBefore (d ∷ []) after (d * 413976684737889 + after / 273)
 put_one d after digits low is = grind arith
 
--- digits before those that were put
-pub put_both : (front more : List ℕ) (k m n : ℕ) → AreDigits more → IsPutBefore more k m → IsPutBefore front m n → IsPutBefore (front ++ more) k n
-put_both front more k m n each first second digits low is =
-    second (more ++ digits) (AllByRecursion-append (λ e. e < 273) more digits each low) (first digits low is)
-    ∙ ap (first_digits 7) (sym (append_assoc front more digits))
-
--- three octets and four, two at a time
-pub put_three : (k m n : ℕ) (octets : List ℕ) → length octets ≡ 3 → IsPutBefore ((slice_index_or octets 2 0 + 1) ∷ (0 ∷ [])) k m
-    → IsPutBefore ((slice_index_or octets 0 0 + 1) ∷ ((slice_index_or octets 1 0 + 1) ∷ [])) m n → AreOctets octets → IsPutBefore (octets_key octets) k n
-put_three k m n (c ∷ (d ∷ (e ∷ []))) len first second low = put_both ((c + 1) ∷ ((d + 1) ∷ [])) ((e + 1) ∷ (0 ∷ [])) k m n (octets_low (e ∷ []) low.1.1) first second
-put_three k m n [] len first second low = absurd (omega (arith, len))
-put_three k m n (_ ∷ []) len first second low = absurd (omega (arith, len))
-put_three k m n (_ ∷ (_ ∷ [])) len first second low = absurd (omega (arith, len))
-put_three k m n (_ ∷ (_ ∷ (_ ∷ (_ ∷ _)))) len first second low = absurd (omega (arith, len))
-
-pub put_four : (k l m n : ℕ) (octets : List ℕ) → length octets ≡ 4 → IsPutBefore (0 ∷ []) k l → IsPutBefore ((slice_index_or octets 2 0 + 1) ∷ ((slice_index_or octets 3 0 + 1) ∷ [])) l m
-    → IsPutBefore ((slice_index_or octets 0 0 + 1) ∷ ((slice_index_or octets 1 0 + 1) ∷ [])) m n → AreOctets octets → IsPutBefore (octets_key octets) k n
-put_four k l m n (c ∷ (d ∷ (e ∷ (f ∷ [])))) len first second third low =
-    put_both ((c + 1) ∷ ((d + 1) ∷ [])) ((e + 1) ∷ ((f + 1) ∷ (0 ∷ []))) k m n (octets_low (e ∷ (f ∷ [])) low.1.1)
-    (put_both ((e + 1) ∷ ((f + 1) ∷ [])) (0 ∷ []) k l m (omega arith, tt) first second) third
-put_four k l m n [] len first second third low = absurd (omega (arith, len))
-put_four k l m n (_ ∷ []) len first second third low = absurd (omega (arith, len))
-put_four k l m n (_ ∷ (_ ∷ [])) len first second third low = absurd (omega (arith, len))
-put_four k l m n (_ ∷ (_ ∷ (_ ∷ []))) len first second third low = absurd (omega (arith, len))
-put_four k l m n (_ ∷ (_ ∷ (_ ∷ (_ ∷ (_ ∷ _))))) len first second third low = absurd (omega (arith, len))
-
--- and a label of two or more
-pub put_longer : (k m n : ℕ) (label : List ℕ) → 2 ≤ length label → AreOctets label → IsPutBefore (octets_key (take (length label - 2) (drop 2 label))) k m
-    → IsPutBefore (longer_digit (slice_index_or label 0 0) ∷ ((slice_index_or label 1 0 + 1) ∷ [])) m n → IsPutBefore (label_key label) k n
-put_longer k m n [] long low first second = absurd (omega (arith, long))
-put_longer k m n (_ ∷ []) long low first second = absurd (omega (arith, long))
-put_longer k m n (c ∷ (d ∷ others)) long low first second =
-    put_both (longer_digit c ∷ ((d + 1) ∷ [])) (octets_key others) k m n (octets_low others low.1.1) (subst (λ o. IsPutBefore (octets_key o) k m) (take_rest 2 (c ∷ (d ∷ others))) first) second
+-- a label of two octets or more begins with these
+pub longer_parts : (k n : ℕ) (label : List ℕ) → 2 ≤ length label
+    → IsPutBefore (longer_digit (slice_index_or label 0 0) ∷ ((slice_index_or label 1 0 + 1) ∷ octets_key (take (length label - 2) (drop 2 label)))) k n → IsPutBefore (label_key label) k n
+longer_parts k n [] long is = absurd (omega (arith, long))
+longer_parts k n (_ ∷ []) long is = absurd (omega (arith, long))
+longer_parts k n (c ∷ (d ∷ others)) long is = subst (λ o. IsPutBefore (longer_digit c ∷ ((d + 1) ∷ octets_key o)) k n) (take_rest 2 (c ∷ (d ∷ others))) is

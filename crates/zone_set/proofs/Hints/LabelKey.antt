@@ -82,7 +82,7 @@ pub owners_embed : (a b : List (List ℕ)) → slice_cmp nat_cmp (owner_key a) (
 owners_embed a b = labels_embed (reverse a) (reverse b)
 
 -- the key of an owner is made of digits
-pub octets_low : (octets : List ℕ) → AreOctets octets → AreDigits (octets_key octets)
+octets_low : (octets : List ℕ) → AreOctets octets → AreDigits (octets_key octets)
 octets_low [] low = (omega arith, tt)
 octets_low (c ∷ octets) low = (omega (arith, low.0), octets_low octets low.1)
 

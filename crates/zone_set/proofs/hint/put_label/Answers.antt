@@ -1,6 +1,7 @@
-use Rattle.zone_set.proofs.Common.{[], IsPutBefore, ap, arith, bytes_each, drop, first_digits, label_key, slice_index_or, subst, ◌++◌, ◌+◌, ◌∙◌, ◌∷◌}
+use Rattle.zone_set.proofs.Common.{IsPutBefore, ap, drop, first_digits, label_key, length, slice_index_or, subst, take, ◌++◌, ◌+◌, ◌-◌, ◌∙◌, ◌∷◌}
 use lib.ListN.{take-append-drop}
-use Rattle.zone_set.proofs.Hints.Digits.{put_longer}
+use Rattle.zone_set.proofs.Hints.Digits.{longer_parts}
+use Rattle.zone_set.specs.Machine.LabelKey.{octets_key}
 use Rattle.zone_set.proofs.hint.put_label.Goals as goal
 
 pub returns-in-Some : goal.returns-in-Some
@@ -10,5 +11,5 @@ returns-in-Some c = λ digits low is.
 
 pub returns-in-None : goal.returns-in-None
 returns-in-None c =
-    put_longer c.args.after c.put_octets.result _ c.args.label.now c.in-len2-up.len_at_least (bytes_each c.args.label.now (λ i. omega (arith, c.type_inv.label i))) c.put_octets.ensures
-    (subst (λ d. IsPutBefore (d ∷ ((slice_index_or c.args.label.now 1 0 + 1) ∷ [])) c.put_octets.result c.put_two.result) c.longer_digit.ensures c.put_two.ensures)
+    longer_parts c.args.after c.put_longer.result c.args.label.now c.in-len2-up.len_at_least
+    (subst (λ d. IsPutBefore (d ∷ ((slice_index_or c.args.label.now 1 0 + 1) ∷ octets_key (take (length c.args.label.now - 2) (drop 2 c.args.label.now)))) c.args.after c.put_longer.result) c.longer_digit.ensures c.put_longer.ensures)

@@ -1,4 +1,0 @@
-use Rattle.zone_set.proofs.bulk.sort_runs.Given as goal
-
-abbrev pub ghost-put_runs : goal.ghost-put_runs
-ghost-put_runs g a = g.base
