@@ -5,3 +5,4 @@ pub mod AddressLaws
 pub mod AddressOctets
 pub mod AddressParts
 pub mod Cut
+pub mod Digits

@@ -1,5 +1,5 @@
 -- How the code takes an address's text apart.
-use Rattle.std.specs.Prelude.{◌≡◌, ◌≢◌, ℕ, suc, ◌+◌, ◌<◌, Bool, List, length, ◌∷◌, ◌++◌, slice_index}
+use Rattle.std.specs.Prelude.{◌≡◌, ◌≢◌, ℕ, suc, ◌+◌, ◌<◌, Bool, List, Option, Some, None, length, ◌∷◌, ◌++◌, slice_index}
 use Rattle.std.specs.List.{AllByRecursion}
 use Rattle.zone_name.specs.Common.{Octets}
 use Rattle.zone_rdata.specs.Address.{IsGroup, IsLastPart}
@@ -32,3 +32,8 @@ AppendsSome Is old new = (added : Octets) × (Is added × (new ≡ old ++ added)
 -- no octets of which so much is said have room in an address of sixteen octets
 abbrev pub NoneFits : (Octets → Type 0) → Octets → Type 0
 NoneFits Is old = (added : Octets) → Is added → 16 < length old + length added
+
+-- the value of a digit, and 255 where there is none
+abbrev pub value_or_255 : Option ℕ → ℕ
+value_or_255 (Some value) = value
+value_or_255 None = 255
