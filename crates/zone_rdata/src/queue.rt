@@ -14,6 +14,7 @@ use crate::rr_source::{LendingSource, Reading, RrSource, record_or_ending};
 use std::alloc::{AllocError, Global};
 use std::collections::VecDeque;
 use std::marker::Model;
+use std::mem::replace;
 use zone_name::NameRef;
 
 /// The greatest number of octets for which the memory of dropped data is kept. Nearly all data is
@@ -26,7 +27,7 @@ const LONGEST_BUFFER: usize = 512;
 #[derive(Drop)]
 pub struct RecordQueue {
     /// The records, with free slots before and after them.
-    slots: VecDeque<Placed>,
+    slots: Vec<Placed>,
     /// The slot of the first record.
     first: usize,
     /// The slot after that of the last record.
@@ -50,7 +51,7 @@ impl RecordQueue {
         ensures { result ≡ [] }
     {
         RecordQueue {
-            slots: VecDeque::new(alloc),
+            slots: Vec::new(alloc),
             first: 0,
             end: 0,
         }
@@ -61,7 +62,6 @@ impl RecordQueue {
     /// # Errors
     ///
     /// `AllocError` where memory is refused. The queue is unchanged.
-    #[inline(always)]
     pub fn push(&mut self, rr: &RrRef<'_>, place: Place) -> Result<(), AllocError>
         ensures appended { OnOk result (self.new
             ≡ self.old ++ record { rr = record_of rr.now; place = place } ∷ []) }
@@ -69,13 +69,8 @@ impl RecordQueue {
         ensures unchanged { OnErr result (self.new ≡ self.old) }
     {
         rr.known();
-        self.turn();
-        match self.slots.get_mut(self.end) {
-            Some(slot) => slot.set(rr, place)?,
-            None => push_slot(&mut self.slots, rr, place)?,
-        }
-        self.end += 1;
-        Ok(())
+        let mut rdata = rr.rdata.to_rdata(*self.slots.allocator())?;
+        self.push_exchanged(rr.owner.copy(), rr.ttl, &mut rdata, place)
     }
 
     /// Appends the record of an owner, a TTL in seconds that was judged before, and data, with its
@@ -86,6 +81,7 @@ impl RecordQueue {
     ///
     /// `AllocError` where memory is refused. The queue and the data are unchanged.
     #[inline(always)]
+    #[tactic(auto, using(crate::proofs::Slots::written))]
     pub fn push_exchanged(
         &mut self,
         owner: NameRef<'_>,
@@ -101,23 +97,27 @@ impl RecordQueue {
         ensures left { OnErr result (rdata.new ≡ rdata.old) }
     {
         rdata.known();
-        self.turn();
-        match self.slots.get_mut(self.end) {
-            Some(slot) => slot.exchange(&owner, ttl, rdata, place),
-            None => {
-                let rr = RrRef::of_parts(owner, ttl, rdata.lend());
-                push_slot(&mut self.slots, &rr, place)?;
-            }
+        if self.end == self.slots.len() {
+            self.turn();
         }
+        if self.end == self.slots.len() {
+            push_slot(&mut self.slots)?;
+        }
+        self.slots[self.end].exchange(&owner, ttl, rdata, place);
         self.end += 1;
         Ok(())
     }
 
-    /// Where no slot is free after the records, those before them come after them.
+    /// The slots before the records come after them, if they are more than the records: so no
+    /// record is moved unless another was skipped.
+    // Not inlined: nearly all records find a free slot.
+    #[cold]
+    #[inline(never)]
+    #[tactic(auto, using(crate::proofs::Slots::turned))]
     fn turn(&mut self)
         ensures { self.new ≡ self.old }
     {
-        if self.end == self.slots.len() {
+        if self.first > self.end / 2 {
             self.slots.rotate_left(self.first);
             self.end -= self.first;
             self.first = 0;
@@ -159,10 +159,10 @@ impl RecordQueue {
         if self.first == self.end {
             return None;
         }
-        self.slots.rotate_left(self.first);
-        self.end -= self.first + 1;
-        self.first = 0;
-        self.slots.pop_front()
+        let empty = Placed::empty(*self.slots.allocator());
+        let taken = replace(&mut self.slots[self.first], empty);
+        self.skip();
+        Some(taken)
     }
 
     /// The records.
@@ -177,25 +177,23 @@ impl RecordQueue {
         } = self;
         slots.rotate_left(first);
         slots.truncate(end - first);
-        slots
+        VecDeque::from(slots)
     }
 }
 
-/// Appends a slot with a record and its place.
+/// Appends a free slot.
 ///
 /// # Errors
 ///
 /// `AllocError` where memory is refused. The slots are unchanged.
-// Not inlined: it has room for a name, and nearly all records find a free slot.
 #[cold]
 #[inline(never)]
-fn push_slot(slots: &mut VecDeque<Placed>, rr: &RrRef<'_>, place: Place) -> Result<(), AllocError>
-    ensures appended { OnOk result (slots.new.items
-        ≡ slots.old.items ++ record { rr = record_of rr.now; place = place } ∷ []) }
+fn push_slot(slots: &mut Vec<Placed>) -> Result<(), AllocError>
+    ensures appended { OnOk result
+        ((free : Placed) × (slots.new.items ≡ slots.old.items ++ free ∷ [])) }
     ensures unchanged { OnErr result (slots.new.items ≡ slots.old.items) }
 {
-    let rr = rr.to_rr(*slots.allocator())?;
-    slots.push_back(Placed { rr, place })?;
+    slots.push(Placed::empty(*slots.allocator()))?;
     Ok(())
 }
 

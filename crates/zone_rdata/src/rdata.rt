@@ -253,30 +253,6 @@ impl Rdata {
         RdataRef::of_octets(self.class, self.kind, &self.octets)
     }
 
-    /// Becomes data that is lent, of which the octets are written in place.
-    ///
-    /// # Errors
-    ///
-    /// `AllocError` where memory is refused. It is then data without octets.
-    #[inline(always)]
-    pub(crate) fn copy_from(&mut self, rdata: &RdataRef<'_>) -> Result<(), AllocError>
-        ensures copied { OnOk result (self.new ≡ rdata.now) }
-        ensures err { OnErr result (self.new ≡ empty_data) }
-    {
-        rdata.known();
-        self.octets.clear();
-        match self.octets.extend_from_slice(rdata.octets()) {
-            Ok(()) => {
-                (self.class, self.kind) = (rdata.class(), rdata.kind());
-                Ok(())
-            }
-            Err(refused) => {
-                *self = Rdata::empty(*self.octets.allocator());
-                Err(refused)
-            }
-        }
-    }
-
     /// Lets the memory of the octets go where it has room for more than `most`. It is then data
     /// without octets.
     pub(crate) fn free(&mut self, most: usize)
@@ -344,8 +320,9 @@ impl RdataRef<'_> {
     pub fn to_rdata(&self, alloc: Global) -> Result<Rdata, AllocError>
         ensures { IfOk result (λ d. d ≡ self.now) }
     {
-        let mut data = Rdata::empty(alloc);
-        data.copy_from(self)?;
-        Ok(data)
+        self.known();
+        let mut octets = Vec::new(alloc);
+        octets.extend_from_slice(self.octets())?;
+        Ok(Rdata::of_octets(self.class(), self.kind(), octets))
     }
 }

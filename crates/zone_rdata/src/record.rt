@@ -197,22 +197,12 @@ impl<'a> RrRef<'a> {
 }
 
 impl Placed {
-    /// Becomes a record that is lent, with its place. Owner and data are written in place.
-    ///
-    /// # Errors
-    ///
-    /// `AllocError` where memory is refused. It is then another record.
-    #[inline(always)]
-    pub(crate) fn set(&mut self, rr: &RrRef<'_>, place: Place) -> Result<(), AllocError>
-        ensures { OnOk result (self.new ≡ record { rr = record_of rr.now; place = place }) }
-    {
-        rr.known();
-        let slot = &mut self.rr;
-        slot.rdata.copy_from(&rr.rdata)?;
-        slot.owner.copy_from(&rr.owner);
-        slot.ttl = rr.ttl;
-        self.place = place;
-        Ok(())
+    /// A record of the root with data without octets, which takes no memory.
+    pub(crate) fn empty(alloc: Global) -> Placed {
+        Placed {
+            rr: Rr::of_parts(Name::root(), 0, Rdata::empty(alloc)),
+            place: Place::Line(0),
+        }
     }
 
     /// Becomes the record of an owner, a TTL in seconds that was judged before, and data, with its

@@ -1,6 +1,7 @@
-ghost use Rattle.std.specs.Prelude.{◌≡◌, ◌++◌, ◌≤◌, ◌<◌, ◌∷◌, [], ℕ, IfSome, IfNone};
+ghost use Rattle.std.specs.Prelude.{◌≡◌, ◌++◌, ◌-◌, ◌≤◌, ◌<◌, ◌∷◌, [], ℕ, true, IfSome, IfNone};
 ghost use Rattle.zone_name.specs.Common.{NothingIs, Octets};
-ghost use Rattle.zone_rdata.specs.Number.{IsCapped, IsTime, unit_seconds};
+ghost use Rattle.zone_name.specs.Spelling.{is_digit};
+ghost use Rattle.zone_rdata.specs.Number.{IsCapped, IsDecimal, IsTime, unit_seconds};
 
 use crate::number::{CAP, decimal_of};
 
@@ -75,10 +76,53 @@ impl Progress {
     }
 }
 
+/// The value of a digit. `None`: it is none.
+#[inline(always)]
+fn value_of_digit(octet: u8) -> Option<u32>
+    ensures { IfSome result (λ n. (is_digit octet ≡ true) × (n ≡ octet - 48) × (n ≤ 9)) }
+{
+    if octet.is_ascii_digit() {
+        return Some(u32::from(octet - b'0'));
+    }
+    None
+}
+
+/// The number that four or five decimal digits stand for. `None`: the text isn't so.
+#[inline(always)]
+fn number_of_few(text: &[u8]) -> Option<u32>
+    ensures { IfSome result (λ n. IsDecimal text.now n × (n ≤ 99999)) }
+{
+    let [a, b, c, d, rest @ ..] = text else {
+        return None;
+    };
+    let front = value_of_digit(*a)? * 10 + value_of_digit(*b)?;
+    let number = (front * 10 + value_of_digit(*c)?) * 10 + value_of_digit(*d)?;
+    match rest {
+        [] => Some(number),
+        [last] => Some(number * 10 + value_of_digit(*last)?),
+        _ => None,
+    }
+}
+
 /// The seconds that a text states, at most 4294967296: decimal digits, or one or more groups of
 /// digits and a unit w, d, h, m or s, summed. `None`: it is no time.
+#[inline(always)]
 #[tactic(auto, using(crate::specs::Number::plain))]
 pub fn seconds_of(text: &[u8]) -> Option<u64>
+    ensures found { IfSome result (IsCapped (IsTime text.now)) }
+    ensures none { IfNone result (NothingIs (IsTime text.now)) }
+{
+    // Most times are some hours or a day or more in seconds, which are read without a loop.
+    match number_of_few(text) {
+        Some(seconds) => Some(u64::from(seconds)),
+        None => seconds_of_any(text),
+    }
+}
+
+/// The same of a text of any length.
+#[inline(never)]
+#[tactic(auto, using(crate::specs::Number::plain))]
+fn seconds_of_any(text: &[u8]) -> Option<u64>
     ensures found { IfSome result (IsCapped (IsTime text.now)) }
     ensures none { IfNone result (NothingIs (IsTime text.now)) }
 {

@@ -124,7 +124,7 @@ fn queue_of_four(alloc: Global) -> Result<PendingRecords, Fail> {
 /// The strings `ab` and `c`.
 const STRINGS: &[u8] = b"\x02ab\x01c";
 
-/// Appends a record of these strings, for which the memory of a record that was skipped is used.
+/// Appends a record of these strings.
 fn push_strings(alloc: Global, pending: &mut PendingRecords) -> Result<(), Fail> {
     let owner = rooted(b"b.")?;
     let mut data = data_of(alloc, "x.", "IN TXT ab c")??;
