@@ -92,6 +92,7 @@ impl<'a> NameRef<'a> {
     /// # Errors
     ///
     /// `out` refuses octets. A prefix of the spelling may have been appended.
+    #[inline(always)]
     pub fn print<S: Sink>(&self, out: &mut S) -> Result<(), S::Error>
         ensures ok { OnOk result (S.takes out.old (name_text self.now) out.new) }
         ensures err { OnErr result (TakesSome S.takes out.old out.new) }

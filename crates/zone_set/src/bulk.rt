@@ -226,6 +226,7 @@ pub(crate) fn are_neighbours(class: Class, octets: &[u8], entries: &[Entry]) -> 
 }
 
 /// How the records of two entries stand, where both may stand in one zone.
+#[inline(always)]
 fn standing(class: Class, octets: &[u8], a: Entry, b: Entry) -> Option<Ordering>
     ghost base: { Labels }
     requires first { IsEntry base class octets.now a }

@@ -23,6 +23,7 @@ pub(crate) struct Head {
 /// # Errors
 ///
 /// `AllocError` where memory is refused. The octets are unchanged.
+#[inline(always)]
 pub(crate) fn append(octets: &mut Vec<u8>, rr: &RrRef<'_>) -> Result<usize, AllocError>
     requires { IsRecord (record_of rr.now) }
     ensures place { IfOk result (λ at. at ≡ length octets.old.items) }

@@ -33,6 +33,7 @@ static DIGIT_VALUES: [u8; 256] = [
 ];
 
 /// The two octets of a group. `None`: the text isn't one to four hexadecimal digits (RFC 4291 2.2).
+#[inline(always)]
 fn group_of(text: &[u8]) -> Option<[u8; 2]>
     ensures found { IfSome result (λ octets. IsGroupOf text.now octets) }
     ensures none { IfNone result (NothingIs (IsGroupOf text.now)) }

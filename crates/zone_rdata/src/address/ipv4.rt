@@ -45,6 +45,7 @@ fn octet_before_dot(text: &[u8]) -> Option<(u8, &[u8])>
 
 /// The octets of an address in four decimal numbers (RFC 1035 3.4.1). `None`: the text is no such
 /// address.
+#[inline(always)]
 pub fn ipv4_octets_of(text: &[u8]) -> Option<[u8; 4]>
     ensures found { IfSome result (λ octets. IsIpv4Address text.now octets) }
     ensures none { IfNone result (NothingIs (IsIpv4Address text.now)) }
