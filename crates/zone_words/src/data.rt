@@ -27,7 +27,7 @@ pub(crate) enum DataFailing {
 }
 
 /// The most octets of data (RFC 1035 3.2.1).
-const MOST: usize = 65_535;
+pub(crate) const LONGEST_DATA: usize = 65_535;
 
 /// Puts the octets that items state under an origin as data of such fields in place of what
 /// `octets` held. On any error `octets` is left empty.
@@ -182,7 +182,7 @@ fn fault_of_whole(left: usize, len: usize) -> Option<WordsFault>
     if left > 0 {
         return Some(WordsFault::ItemsLeftOver);
     }
-    if len > MOST {
+    if len > LONGEST_DATA {
         return Some(WordsFault::TooLong);
     }
     None

@@ -8,14 +8,12 @@ ghost use Rattle.zone_words.specs.Printed.{ArePrinted, IfNoData};
 ghost use Rattle.zone_words.specs.PrintedData.{AreItsWords, AreOfAType, HasNoWords, NoItemsOf, PrintsData, PrintsFields};
 ghost use Rattle.zone_words.specs.Table.{field_of, of_amtrelay, of_code, of_hip, of_ipseckey};
 
+use crate::data::LONGEST_DATA;
 use crate::field::Field;
 use crate::fields::{Fields, amtrelay_by, hip_fields, ipseckey_by};
 use crate::kinds::{print_discovery, print_u8};
 use crate::taking::{take, take_u8};
 use crate::unprinted::Unprinted;
-
-/// The most octets of data (RFC 1035 3.2.1).
-const MOST: usize = 65_535;
 
 /// Puts the words of data in place of what `words` held, each after a blank but for an item that
 /// touches the one before it. A terminal shows each of their octets as it is.
@@ -32,7 +30,7 @@ pub fn print_data(fields: Fields, octets: &[u8], words: &mut Vec<u8>) -> Result<
         (IfNoData (AreOfAType (of_code fields) → HasNoWords (of_code fields) octets.now)) }
 {
     words.clear();
-    if octets.len() > MOST {
+    if octets.len() > LONGEST_DATA {
         return Err(Unprinted::NoData);
     }
     match fields {

@@ -32,13 +32,13 @@ pub returns-in-Hip-clause-none : goal.returns-in-Hip-clause-none
 returns-in-Hip-clause-none c = rw c.in-Hip.is (none_weaker c.print_hip.result _ _ (λ h type. h) c.print_hip.ensures.none)
 
 pub returns-in-Same-clause-printed : goal.returns-in-Same-clause-printed
-returns-in-Same-clause-printed c = rw c.in-Same.is (ok_goes c.print_fields.result _ _ (λ h. words_put (same (map field_of c.in-Same.fields.now)) c.args.octets.now _ _ c.clear.ensures.items (fields_are_data (map field_of c.in-Same.fields.now) c.args.octets.now _ _ c.if-octets-gt-MOST.false h)) c.print_fields.ensures.printed)
+returns-in-Same-clause-printed c = rw c.in-Same.is (ok_goes c.print_fields.result _ _ (λ h. words_put (same (map field_of c.in-Same.fields.now)) c.args.octets.now _ _ c.clear.ensures.items (fields_are_data (map field_of c.in-Same.fields.now) c.args.octets.now _ _ c.if-octets-gt-LONGEST_DATA.false h)) c.print_fields.ensures.printed)
 
 pub returns-in-Same-clause-shown : goal.returns-in-Same-clause-shown
-returns-in-Same-clause-shown c = ok_goes c.print_fields.result _ _ (λ h. words_shown (same (map field_of c.in-Same.fields.now)) c.args.octets.now _ (words_put (same (map field_of c.in-Same.fields.now)) c.args.octets.now _ _ c.clear.ensures.items (fields_are_data (map field_of c.in-Same.fields.now) c.args.octets.now _ _ c.if-octets-gt-MOST.false h))) c.print_fields.ensures.printed
+returns-in-Same-clause-shown c = ok_goes c.print_fields.result _ _ (λ h. words_shown (same (map field_of c.in-Same.fields.now)) c.args.octets.now _ (words_put (same (map field_of c.in-Same.fields.now)) c.args.octets.now _ _ c.clear.ensures.items (fields_are_data (map field_of c.in-Same.fields.now) c.args.octets.now _ _ c.if-octets-gt-LONGEST_DATA.false h))) c.print_fields.ensures.printed
 
 pub returns-in-Same-clause-none : goal.returns-in-Same-clause-none
 returns-in-Same-clause-none c = rw c.in-Same.is (none_weaker c.print_fields.result _ _ (λ h. no_data_of (map field_of c.in-Same.fields.now) c.args.octets.now h) c.print_fields.ensures.none)
 
-pub returns-then-octets-gt-MOST-clause-none : goal.returns-then-octets-gt-MOST-clause-none
-returns-then-octets-gt-MOST-clause-none c type = too_long (of_code c.args.fields) c.args.octets.now c.if-octets-gt-MOST.true
+pub returns-then-octets-gt-LONGEST_DATA-clause-none : goal.returns-then-octets-gt-LONGEST_DATA-clause-none
+returns-then-octets-gt-LONGEST_DATA-clause-none c type = too_long (of_code c.args.fields) c.args.octets.now c.if-octets-gt-LONGEST_DATA.true
