@@ -1,15 +1,15 @@
 -- The line of a record with its data in the generic form is one entry with these items.
-use Rattle.zone_words.proofs.Common.{AllByRecursion, Cuts, FurtherType, IsToken, List, RawItem, Token, TouchingItem, [], ap, append_assoc, codes, digits, encode_lower, escaped, false, false≢true, flat_map, generic_tokens, item_of, length, map, plain, refl, subst, sym, text, true, word, written_text, ℕ, ◌++◌, ◌∙◌, ◌∷◌, ◌≡◌}
+use Rattle.zone_words.proofs.Common.{AllByRecursion, Cuts, FurtherType, IsToken, List, RawItem, Token, TouchingItem, [], ap, append_assoc, codes, encode_lower, escaped, false, false≢true, flat_map, generic_tokens, item_of, length, map, plain, refl, subst, sym, text, word, ℕ, ◌++◌, ◌∙◌, ◌∷◌, ◌≡◌}
 use Rattle.std.specs.Prelude.{decimal}
 use Rattle.zone_name.proofs.Texts.Bare.{plain_text}
 use Rattle.zone_rdata.specs.Generic.{generic_items}
 use Rattle.zone_rdata.specs.Item as raw
 use Rattle.zone_text.specs.FirstEntry.{IsOneEntry}
 use Rattle.zone_words.proofs.HeadLines.{items_spelt, line_cut, line_ended, of_head, tokens}
-use Rattle.zone_words.proofs.WrittenWords.{ArePlain, hex_some, mark_is, plain_decimal, plain_hex, some_decimal, type_is, word_token}
+use Rattle.zone_words.proofs.WrittenWords.{hex_some, mark_is, plain_decimal, plain_hex, some_decimal, type_is, word_token}
 use Rattle.zone_words.specs.DataItem.{items_of}
 use Rattle.zone_words.specs.Parameters.Printed.{written_touching}
-use Rattle.zone_words.specs.WordsLine.{IsBareText, IsHead, StandsBehind, generic_line}
+use Rattle.zone_words.specs.WordsLine.{IsHead, StandsBehind, generic_line}
 
 abbrev after_blank : RawItem → TouchingItem
 after_blank item = record { item = item; touches = false }

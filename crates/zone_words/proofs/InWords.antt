@@ -1,17 +1,12 @@
 -- A record in words on one line is rewritten as the record with its data in the generic form.
-use Rattle.zone_words.proofs.Common.{AllByRecursion, AllByRecursion-append, AreOnOneLine, BecomesUnder, Bool, Cuts, Entry, FurtherType, HasClass, IsFurtherRecord, IsFurtherUnder, IsFurtherWord, IsGeneric, IsMnemonic, IsRewriting, IsToken, IsUnit, Labels, List, MatchOption, Named, None, Option, Parts, RawItem, Refused, SaysAnew, Some, StatesData, Token, TokensSay, TouchingItem, Word, Written, [], and_last, anew, ap, append-nil, append_assoc, arith, blank, by_mnemonic, class_among, closing, codes, comment, common_steps, count_by, cut_from, encode_lower, ends_item, entry_of, escaped, false, false≢true, filter, find, find_mapped, flat_map, flat_map-append, folded_label, found_each, further_names, further_type, further_types, generic_tokens, if◌then◌else◌, in_class, is_blank, item_of, latest, length, length-append, line_feed, line_feeds_in, list_all, map, mnemonic_among, most_items, nat_tests, not, not-true, opening, option_map, option_or, owned, parts_after, parts_in, plain, refl, slice_get, statement_by, statement_of, stays, subst, suc, sym, text, token_text, touching_items, true, type_token, word, word_after, written, written_text, zero, ℕ, ◌++◌, ◌+◌, ◌<◌, ◌==◌, ◌∙◌, ◌∷◌, ◌≡◌, ◌≢◌}
+use Rattle.zone_words.proofs.Common.{AllByRecursion, BecomesUnder, Bool, FurtherType, HasClass, IsFurtherRecord, IsFurtherWord, IsRewriting, IsToken, Labels, List, MatchOption, Named, None, Parts, RawItem, SaysAnew, Some, Token, TokensSay, TouchingItem, Word, Written, [], and_last, anew, ap, append-nil, arith, by_mnemonic, class_among, ends_item, entry_of, escaped, false, false≢true, filter, find_mapped, flat_map, flat_map-append, found_each, further_names, further_type, further_types, generic_tokens, in_class, is_blank, item_of, length, length-append, list_all, map, mnemonic_among, most_items, nat_tests, not, not-true, option_map, option_or, owned, parts_after, parts_in, plain, refl, slice_get, statement_by, statement_of, stays, subst, sym, text, token_text, true, word, word_after, written, written_text, ℕ, ◌++◌, ◌<◌, ◌==◌, ◌∙◌, ◌∷◌, ◌≡◌, ◌≢◌}
 use Rattle.std.specs.Prelude.{◌&&◌, nat_lt, IfSome, IsSome, option_and_then}
 use Rattle.std.proofs.lemmas.List.{length-map}
-use Rattle.std.proofs.lemmas.List.Sums.{sum_by-cons}
-use Rattle.zone_text.specs.Entries.{in_front_of}
-use Rattle.zone_words.proofs.KeptEntries.{bare_feedless}
-use Rattle.zone_text.proofs.Common.{bare, quoted}
+use Rattle.zone_text.proofs.Common.{bare}
 use Rattle.zone_name.proofs.Texts.Bare.{plain_text}
 use Rattle.zone_name.specs.Spelling as spelling
 use Rattle.zone_rdata.specs.Item as raw
-use Rattle.zone_rdata.specs.Strings.{StandsInQuotes, is_quote}
-use Rattle.zone_rdata.specs.Text.{generic_text, written_item}
-use Rattle.zone_rdata.specs.Words.{IsClass, IsClassWord}
+use Rattle.zone_rdata.specs.Words.{IsClassWord}
 use Rattle.zone_text.proofs.Heads.ClassWords.{class_word_first, class_word_known, time_first}
 use Rattle.zone_text.proofs.Heads.WordsLeft.{next_part}
 use Rattle.zone_text.specs.Entries.{Cut}
@@ -19,16 +14,13 @@ use Rattle.zone_text.specs.FirstEntry.{IsOneEntry}
 use Rattle.zone_text.specs.Inherited.{class_word}
 use Rattle.zone_text.specs.Records.{HasValue}
 use Rattle.zone_text.specs.Statements.{begins_with_digit, class, is_class_word, ttl}
-use Rattle.zone_text.specs.Tokens.{AllFollow, MayFollow, depth_after}
 use Rattle.zone_words.proofs.WrittenWords.{ArePlain, word_token}
-use Rattle.zone_words.specs.Data.{in_order}
 use Rattle.zone_words.specs.DataItem.{items_of}
 use Rattle.zone_words.specs.Entry.{in_words}
 use Rattle.zone_words.specs.Rewriting.{EachBecomes, whole}
-use Rattle.zone_words.specs.Table.{fields_in}
-use Rattle.zone_words.specs.WordsLine.{AreWords, IsBareText, IsHead, IsOwnerlessHead, IsQuoted, Stands, StandsBehind, generic_line, words_line}
-use Rattle.zone_words.specs.Written.{Anew, digit_tokens, in_octets}
-use Rattle.zone_words.proofs.HeadLines.{IsFront, IsOneOf, line_cut, line_ended, of_head, of_ownerless, one_line, rest_items, tail, tail_stays, tail_touching, tokens}
+use Rattle.zone_words.specs.WordsLine.{AreWords, IsHead, IsOwnerlessHead, StandsBehind, generic_line, words_line}
+use Rattle.zone_words.specs.Written.{in_octets}
+use Rattle.zone_words.proofs.HeadLines.{IsFront, line_cut, line_ended, of_head, of_ownerless, one_line, rest_items, tail, tail_stays, tail_touching, tokens}
 
 -- ---- the mnemonic of a further type
 

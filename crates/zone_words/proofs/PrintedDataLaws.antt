@@ -1,11 +1,8 @@
 -- The words of a type's data of the same fields for all its data.
 use Rattle.zone_words.proofs.Common.{List, [], ap, arith, length, subst, sym, ℕ, ◌++◌, ◌<◌, ◌∙◌, ◌≡◌}
 use Rattle.std.specs.Prelude.{◌≤◌}
-use Rattle.zone_name.specs.Common.{Labels}
 use Rattle.zone_rdata.specs.Limits.{longest_data}
 use Rattle.zone_words.proofs.PrintedRows.{only_last_prints_all}
-use Rattle.zone_words.specs.Data.{StatesData, in_order}
-use Rattle.zone_words.specs.DataItem.{TouchingItem}
 use Rattle.zone_words.specs.Machine.PrintedFields.{OnlyLastPrintsAll}
 use Rattle.zone_words.specs.Parameters.Printed.{PrintsTouching, written_touching}
 use Rattle.zone_words.proofs.PrintedStanding.{printed_words_are_printed}

@@ -1,14 +1,14 @@
 -- Bare items that are printed for all octets, one after another.
-use Rattle.zone_words.proofs.Common.{AllZip, List, RawItem, [], ap, append-nil, append_assoc, arith, flat_map, length, length-append, map, nil_from_length, refl, subst, sym, ℕ, ◌++◌, ◌<◌, ◌∙◌, ◌∷◌, ◌≡◌}
+use Rattle.zone_words.proofs.Common.{AllZip, List, RawItem, [], ap, append-nil, append_assoc, arith, length, length-append, map, nil_from_length, refl, sym, ℕ, ◌++◌, ◌<◌, ◌∙◌, ◌∷◌, ◌≡◌}
 use Rattle.std.specs.Prelude.{◌≤◌}
 use Rattle.zone_name.specs.Common.{Labels}
 use Rattle.zone_rdata.proofs.Octets.Sent.{append_same}
 use Rattle.zone_rdata.specs.Item.{bare, quoted}
 use Rattle.zone_words.proofs.PrintedFields.{all_unprinted}
 use Rattle.zone_words.specs.Data.{joined}
-use Rattle.zone_words.specs.DataItem.{TouchingItem, items_of}
-use Rattle.zone_words.specs.EachItem.{EachIsPrinted, EachStates}
-use Rattle.zone_words.specs.Field.{StatesBare, StatesField}
+use Rattle.zone_words.specs.DataItem.{items_of}
+use Rattle.zone_words.specs.EachItem.{EachStates}
+use Rattle.zone_words.specs.Field.{StatesBare}
 use Rattle.zone_words.specs.Machine.PrintedFields.{HasNoOwn}
 use Rattle.zone_words.specs.Parameters.Printed.{PrintsTouching, written_touching}
 use Rattle.zone_words.specs.Printed.{NoFront, PrintsFront}

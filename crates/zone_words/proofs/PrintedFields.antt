@@ -1,16 +1,16 @@
 -- A field that is printed for the octets at the front, each kind.
 use Rattle.zone_words.proofs.Common.{List, RawItem, [], ap, append-nil, append_assoc, arith, length, length-append, refl, subst, sym, ℕ, ◌++◌, ◌∙◌, ◌∷◌, ◌≡◌}
-use Rattle.std.specs.Prelude.{Bool, true, false, ◌≢◌, ◌<◌}
+use Rattle.std.specs.Prelude.{true, ◌≢◌, ◌<◌}
 use Rattle.zone_name.specs.Common.{Labels}
 use Rattle.zone_rdata.specs.Item.{bare, quoted}
 use Rattle.zone_rdata.specs.Strings.{inside_text}
 use Rattle.zone_rdata.specs.Text.{written_item}
 use Rattle.zone_words.specs.DataItem.{TouchingItem, items_of}
-use Rattle.zone_words.specs.Field.{StatesBare, StatesField, field_meaning}
+use Rattle.zone_words.specs.Field.{StatesBare, StatesField}
 use Rattle.zone_words.specs.Kinds.Gateway.{StatesNothing}
-use Rattle.zone_words.specs.Kinds.Strings.{IsAString, PrintsPerhaps, PrintsString, PrintsStringItem, StatesString}
+use Rattle.zone_words.specs.Kinds.Strings.{IsAString, PrintsPerhaps, PrintsString, PrintsStringItem}
 use Rattle.zone_words.specs.Machine.PrintedFields.{HasNoOwn, IsOwnPart, PrintsOwn, prints_all}
-use Rattle.zone_words.specs.Parameters.Printed.{NoParameters, PrintsParameters, PrintsTouching, written_touching}
+use Rattle.zone_words.specs.Parameters.Printed.{NoParameters, PrintsTouching, written_touching}
 use Rattle.zone_words.specs.Printed.{NoFront, NoItems, PrintsAll, PrintsFront, after_blanks}
 use Rattle.zone_words.specs.PrintedData.{PrintsApart, PrintsBare, PrintsField, StatesSomewhere, apart}
 use Rattle.zone_words.specs.declared.field.BareKind.{BareKind}

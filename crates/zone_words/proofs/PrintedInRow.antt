@@ -1,10 +1,9 @@
 -- Fields that are printed for octets, one after another.
-use Rattle.zone_words.proofs.Common.{List, [], ap, drop, from_place, get_or, length-drop, ◌+◌, append-nil, append_assoc, arith, flat_map, flat_map-append, length, map, nil_from_length, refl, subst, sym, ℕ, ◌++◌, ◌<◌, ◌∙◌, ◌∷◌, ◌≡◌}
-use Rattle.std.specs.Prelude.{true, false, ◌≤◌}
+use Rattle.zone_words.proofs.Common.{List, [], ap, drop, from_place, get_or, length-drop, ◌+◌, append-nil, append_assoc, arith, length, map, nil_from_length, refl, subst, sym, ℕ, ◌++◌, ◌<◌, ◌∙◌, ◌∷◌, ◌≡◌}
+use Rattle.std.specs.Prelude.{true, ◌≤◌}
 use Rattle.zone_name.specs.Common.{Labels}
 use Rattle.zone_rdata.proofs.Octets.Sent.{append_same}
-use Rattle.zone_rdata.specs.Text.{written_item}
-use Rattle.zone_words.specs.Data.{StateParts, joined, left_over}
+use Rattle.zone_words.specs.Data.{StateParts, joined}
 use Rattle.zone_words.specs.DataItem.{TouchingItem}
 use Rattle.zone_words.specs.Field.{items_after, own_items}
 use Rattle.zone_words.specs.Machine.PrintedFields.{HasNoOwn, OnlyLastPrintsAll, PrintsOwn, prints_all}

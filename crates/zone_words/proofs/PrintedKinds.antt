@@ -1,6 +1,6 @@
 -- What is printed for a bare item's octets, where texts are asked for that state them under some
 -- origin.
-use Rattle.zone_words.proofs.Common.{IfErr, List, Result, ℕ, ◌++◌, ◌≡◌}
+use Rattle.zone_words.proofs.Common.{IfErr, List, Result, ℕ}
 use Rattle.std.specs.Prelude.{Err, Ok, OnOk}
 use Rattle.zone_words.specs.Printed.{IfNoData, NoFront, PrintsFront}
 use Rattle.zone_words.specs.declared.unprinted.Unprinted.{Unprinted}

@@ -1,5 +1,5 @@
 -- Texts with commas between, after a mark; and octets that begin alike.
-use Rattle.zone_words.proofs.Common.{List, [], ap, append-nil, append_assoc, arith, join_with_byte, length, map, map_push, refl, subst, sym, ℕ, ◌++◌, ◌∙◌, ◌∷◌, ◌≡◌}
+use Rattle.zone_words.proofs.Common.{List, [], ap, append-nil, append_assoc, arith, join_with_byte, length, map, map_push, refl, sym, ℕ, ◌++◌, ◌∙◌, ◌∷◌, ◌≡◌}
 use Rattle.zone_words.specs.Machine.PrintedParameters.{marked}
 
 abbrev pub next_mark : List ℕ → List (List ℕ) → List ℕ

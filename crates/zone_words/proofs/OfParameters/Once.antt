@@ -1,7 +1,7 @@
 -- Items state the octets of one list of parameters, or have a fault.
 use Rattle.zone_words.proofs.Base64Texts.{one_base64}
 use Rattle.zone_words.proofs.OfParameters.Listed.{items_once}
-use Rattle.zone_words.proofs.Common.{All-from_recursion, All-permutation, AllByRecursion, Alpn, AreComplete, AreOnce, Ascend, AscendAbove, BeginWith, BeginWithKey, BeginWithNoKey, DohPath, Ech, FailsParameters, FailsValue, Ipv4Hint, Ipv6Hint, IsNew, IsPermutation, IsPermutation-trans, IsShort, IsThere, Key, List, ListsItems, Mandatory, NoDefaultAlpn, Numbered, Ohttp, Ok, Parameter, ParameterText, Port, RequiresKeys, Sent, StateEach, StatesParameter, StatesParameters, StatesValue, TouchingItem, WordsFault, [], alone, ap, arith, bad_escape, bad_value, bare_value, flat_map, groups_unique, inl, inr, length, long_value, map, missing_key, no_key, numbers_unique, quoted_value, recursion_from_All, refl, repeated_key, sent, sent_octets, subst, sym, to_be_bytes, w16, ℕ, ◌++◌, ◌<◌, ◌∙◌, ◌∷◌, ◌≡◌, ◌≤◌, ◌⊎◌}
+use Rattle.zone_words.proofs.Common.{All-from_recursion, All-permutation, AllByRecursion, Alpn, AreComplete, AreOnce, Ascend, AscendAbove, BeginWith, BeginWithKey, BeginWithNoKey, DohPath, Ech, FailsParameters, FailsValue, Ipv4Hint, Ipv6Hint, IsNew, IsPermutation, IsPermutation-trans, IsShort, IsThere, Key, List, ListsItems, Mandatory, NoDefaultAlpn, Numbered, Ohttp, Parameter, ParameterText, Port, RequiresKeys, Sent, StateEach, StatesParameter, StatesParameters, StatesValue, TouchingItem, WordsFault, [], alone, ap, arith, bad_escape, bad_value, bare_value, flat_map, groups_unique, inl, inr, length, long_value, map, missing_key, no_key, numbers_unique, quoted_value, recursion_from_All, refl, repeated_key, sent, sent_octets, subst, sym, to_be_bytes, w16, ℕ, ◌++◌, ◌<◌, ◌∙◌, ◌∷◌, ◌≡◌, ◌≤◌, ◌⊎◌}
 use Rattle.std.proofs.lemmas.List.Sorted.{IsPermutation-sym}
 use Rattle.zone_rdata.specs.Address.{IsIpv4Address, IsIpv6Address}
 use Rattle.zone_words.proofs.UnescapedTexts.{unescaped_once}

@@ -1,7 +1,7 @@
 -- Keys that have to be there, as they are printed.
 use Rattle.zone_words.proofs.Common.{AllByRecursion, Ascend, AscendAbove, List, Sent, [], ap, append-nil, append_assoc, append_cancel_left, arith, drop, drop_more, flat_map, get_or, inl, inr, join_with_byte, length, map, refl, subst, suc, sym, to_be_bytes, w16, ℕ, ◌++◌, ◌+◌, ◌<◌, ◌^◌, ◌∙◌, ◌∷◌, ◌≡◌, ◌≢◌}
 use Rattle.std.proofs.lemmas.Nat.{from_be_bytes-to_be_bytes_2}
-use Rattle.zone_words.proofs.OfParameters.Marked.{AreMarked, more_marked, same_parts}
+use Rattle.zone_words.proofs.OfParameters.Marked.{AreMarked, more_marked}
 use Rattle.zone_words.specs.Machine.PrintedParameters.{AppendsUnquoted, AreKeys, IsAfterKey, all_sent, key_texts, marked, numbers_in, sent_of, stays, taken}
 use Rattle.zone_words.specs.Parameters.Keys.{key_text}
 use Rattle.zone_words.specs.Parameters.Printed.{IsAmong, PrintsKeys, usual_key}

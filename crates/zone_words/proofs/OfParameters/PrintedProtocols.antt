@@ -1,7 +1,7 @@
 -- Protocols as they are printed.
 use Rattle.zone_words.proofs.Common.{AllByRecursion, AllByRecursion-append, AreOctets, List, [], ap, append-nil, append_assoc, arith, flat_map, flat_map-append, flat_map_more, get_or, join_with_byte, length, length-append, map, refl, subst, sym, with_length, ℕ, ◌++◌, ◌<◌, ◌≤◌, ◌∙◌, ◌∷◌, ◌≡◌}
 use Rattle.zone_rdata.specs.Strings.{inside_text, unit_text}
-use Rattle.zone_words.proofs.OfParameters.Marked.{AreMarked, SameParts, more_marked, same_parts}
+use Rattle.zone_words.proofs.OfParameters.Marked.{AreMarked, more_marked, same_parts}
 use Rattle.zone_words.specs.Machine.PrintedParameters.{AppendsQuoted, AreProtocols, marked}
 use Rattle.zone_words.specs.Parameters.Printed.{PrintsProtocols}
 use Rattle.zone_words.specs.Parameters.Value.{IsProtocol, escaped_item}

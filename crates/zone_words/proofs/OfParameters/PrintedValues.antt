@@ -1,5 +1,5 @@
 -- Values of keys as they are printed, and octets that are no value of a key.
-use Rattle.zone_words.proofs.Common.{All-from_recursion, All-permutation, AllByRecursion, AllZip, AscendAbove, IfErr, IsErrAnd, IsPermutation, Key, Ipv4Hint, Ipv6Hint, List, ListsAddresses, ListsKeys, Mandatory, Result, Sent, SpellsKey, [], ap, append_assoc, arith, count_by, flat_map, length, listed, recursion_from_All, refl, subst, sym, to_be_bytes, w16, ℕ, ◌++◌, ◌+◌, ◌<◌, ◌==◌, ◌^◌, ◌∙◌, ◌∷◌, ◌≡◌, ◌≤◌}
+use Rattle.zone_words.proofs.Common.{All-from_recursion, All-permutation, AllByRecursion, AllZip, IfErr, Key, Ipv4Hint, Ipv6Hint, List, ListsAddresses, ListsKeys, Mandatory, Result, Sent, [], ap, arith, flat_map, length, listed, recursion_from_All, refl, subst, sym, to_be_bytes, w16, ℕ, ◌<◌, ◌==◌, ◌∙◌, ◌∷◌, ◌≡◌}
 use Rattle.std.proofs.lemmas.List.Sorted.{length_permutation}
 use Rattle.std.proofs.lemmas.List.Splits.{length-slice_split}
 use Rattle.std.proofs.lemmas.Result.{on_ok_weaker}
@@ -10,7 +10,7 @@ use Rattle.zone_words.proofs.OfParameters.KeyLists.{lists_keys_once}
 use Rattle.zone_words.proofs.OfParameters.PrintedKeys.{numbers_of}
 use Rattle.zone_words.proofs.OfParameters.Stops.{if_no_data}
 use Rattle.zone_words.specs.Machine.PrintedParameters.{AppendsQuoted, AppendsUnquoted, AppendsValue, AreAddresses, AreKeys, NoAddresses, NoValue, StopsAs, numbers_in}
-use Rattle.zone_words.specs.Parameters.Printed.{IsAmong, IsStated, PrintsValue, in_quotes, unquoted}
+use Rattle.zone_words.specs.Parameters.Printed.{IsAmong, PrintsValue, in_quotes, unquoted}
 use Rattle.zone_words.specs.Parameters.Value.{IsKeyText}
 use Rattle.zone_words.specs.Printed.{IfNoData}
 use Rattle.zone_words.specs.declared.unprinted.Unprinted.{Unprinted}

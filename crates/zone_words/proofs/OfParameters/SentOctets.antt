@@ -1,8 +1,8 @@
 -- The octets of parameters whose keys ascend, taken apart.
-use Rattle.zone_words.proofs.Common.{AllByRecursion, AllByRecursion-append, Ascend, AscendAbove, List, Sent, [], ap, ap₂, append-nil, append_assoc, arith, flat_map, flat_map_more, length, length-append, map, refl, sent_octets, subst, sym, to_be_bytes, w16, ℕ, ◌++◌, ◌+◌, ◌<◌, ◌≤◌, ◌^◌, ◌∙◌, ◌∷◌, ◌≡◌}
+use Rattle.zone_words.proofs.Common.{AllByRecursion, AllByRecursion-append, Ascend, AscendAbove, List, Sent, [], ap, ap₂, append-nil, append_assoc, arith, flat_map, flat_map_more, length, map, refl, sent_octets, subst, sym, to_be_bytes, w16, ℕ, ◌++◌, ◌+◌, ◌<◌, ◌≤◌, ◌^◌, ◌∙◌, ◌∷◌, ◌≡◌}
 use Rattle.std.proofs.lemmas.Nat.{from_be_bytes-to_be_bytes_2}
 use Rattle.std.specs.Int.{from_be_bytes}
-use Rattle.zone_words.proofs.OfParameters.Marked.{SameParts, same_parts}
+use Rattle.zone_words.proofs.OfParameters.Marked.{same_parts}
 use Rattle.zone_words.specs.Machine.PrintedParameters.{IsSentFront}
 use Rattle.zone_words.specs.Parameters.Printed.{HaveOctets, IsSendable}
 

@@ -1,6 +1,5 @@
 -- Values that are printed from the front of octets, where they stand after their length.
-use Rattle.zone_words.proofs.Common.{AreOctets, List, ap, arith, bytes_each, length, refl, slice_index, subst, sym, with_length, ℕ, ◌++◌, ◌<◌, ◌∙◌, ◌≡◌, ◌≤◌}
-use Rattle.zone_name.proofs.InOctets.Pushing.{AllByRecursion-back}
+use Rattle.zone_words.proofs.Common.{AreOctets, List, ap, arith, bytes_each, length, slice_index, subst, sym, with_length, ℕ, ◌++◌, ◌<◌, ◌∙◌, ◌≡◌, ◌≤◌}
 use Rattle.zone_rdata.proofs.Octets.Sent.{frame_same}
 use Rattle.zone_text.proofs.Common.{AllByRecursion-front}
 use Rattle.zone_words.specs.Machine.Taking.{NoneCounted}

@@ -1,8 +1,7 @@
 -- Hexadecimal digits as they are printed.
-use Rattle.zone_words.proofs.Common.{AreOctets, IsHex, List, RawItem, [], ap, append-nil, append_assoc, arith, codes, length, nil_from_length, refl, slice_index, sym, with_length, ℕ, ◌++◌, ◌<◌, ◌∙◌, ◌∷◌, ◌≡◌, bytes_each, encode_lower}
+use Rattle.zone_words.proofs.Common.{List, [], ap, append-nil, append_assoc, arith, codes, length, nil_from_length, refl, slice_index, sym, with_length, ℕ, ◌++◌, ◌<◌, ◌∙◌, ◌∷◌, ◌≡◌, bytes_each, encode_lower}
 use Rattle.zone_rdata.specs.Item.{bare}
 use Rattle.zone_words.proofs.Printed.Counted.{AfterLength, counted_front, counted_octets, counted_small}
-use Rattle.zone_words.specs.Kinds.AfterLength.{StatesAfterLength}
 use Rattle.zone_words.specs.Kinds.Hex.{IsLowerHex, PrintsHex, StatesHex}
 use Rattle.zone_words.specs.Kinds.Salt.{PrintsSalt, StatesSalt, digits, no_octets}
 use Rattle.zone_words.specs.Printed.{NoItems, PrintsAll, PrintsFront}

@@ -2,7 +2,7 @@
 use Rattle.std.proofs.lemmas.List.Sums.{fold-append}
 use Rattle.std.specs.Prelude.{OnOk}
 use Rattle.std.specs.Result.{is_ok}
-use Rattle.zone_words.proofs.Common.{AllByRecursion, AllZip, AreOctets, Err, List, Ok, Result, if◌then◌else◌, Some, [], add-zero, ap, append-nil, append_assoc, arith, bytes_each, drop, length, length-append, min, nil_from_length, refl, slice_index, subst, suc, sym, take, take-append-drop, with_length, zero, ℕ, ◌*◌, ◌+◌, ◌++◌, ◌-◌, ◌/◌, ◌%◌, ◌<◌, ◌^◌, ◌∙◌, ◌∷◌, ◌≡◌, ◌≤◌}
+use Rattle.zone_words.proofs.Common.{AllByRecursion, AllZip, AreOctets, Err, List, Ok, Result, if◌then◌else◌, Some, [], ap, append-nil, append_assoc, arith, drop, length, length-append, min, nil_from_length, refl, slice_index, subst, suc, sym, take, take-append-drop, with_length, zero, ℕ, ◌*◌, ◌+◌, ◌++◌, ◌/◌, ◌%◌, ◌<◌, ◌^◌, ◌∙◌, ◌∷◌, ◌≡◌, ◌≤◌}
 use Rattle.std.proofs.lemmas.List.{length-drop, length-take}
 use Rattle.std.specs.Int.{div_ceil}
 use Rattle.zone_name.specs.Name.{folded_octet}

@@ -3,7 +3,7 @@ use Rattle.base64.specs.Engines.{standard}
 use Rattle.base64.specs.GeneralPurpose.{encode_of}
 use Rattle.zone_rdata.proofs.Octets.Sent.{append_same}
 use Rattle.zone_text.proofs.Common.{AllByRecursion-front}
-use Rattle.zone_words.proofs.Common.{AreOctets, List, ap, append_assoc, arith, bytes_each, encode_lower, length, refl, slice_index, subst, sym, to_be_bytes, w16, with_length, ℕ, ◌%◌, ◌+◌, ◌++◌, ◌/◌, ◌<◌, ◌∙◌, ◌≡◌, ◌≤◌}
+use Rattle.zone_words.proofs.Common.{AreOctets, List, ap, append_assoc, arith, bytes_each, encode_lower, length, refl, slice_index, subst, sym, to_be_bytes, w16, with_length, ℕ, ◌%◌, ◌++◌, ◌/◌, ◌<◌, ◌∙◌, ◌≡◌, ◌≤◌}
 use Rattle.zone_words.proofs.Printed.Counted.{AfterLength, counted_bad, counted_front, counted_octets, counted_small}
 use Rattle.zone_words.specs.Kinds.Hex.{IsLowerHex}
 use Rattle.zone_words.specs.Kinds.HostIdentity.{PrintsHostIdentityTag, PrintsPublicKey, StatesHostIdentityTag, StatesPublicKey}

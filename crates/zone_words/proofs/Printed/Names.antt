@@ -1,10 +1,9 @@
 -- Names as they are printed.
-use Rattle.zone_words.proofs.Common.{AllByRecursion, AllByRecursion-append, AllByRecursion-back, AllByRecursion-front, Labels, List, NothingIs, Some, SpellsCased, [], ap, append-nil, append_assoc, arith, bytes_each, flat_map, flat_map-append, length, length-append, nil_from_length, refl, slice_index, subst, sym, wire, with_length, ℕ, ◌++◌, ◌-◌, ◌<◌, ◌∙◌, ◌∷◌, ◌≡◌, ◌≤◌}
+use Rattle.zone_words.proofs.Common.{AllByRecursion, AllByRecursion-append, AllByRecursion-back, AllByRecursion-front, Labels, List, [], ap, append-nil, append_assoc, arith, bytes_each, flat_map, length, length-append, nil_from_length, refl, slice_index, subst, sym, wire, with_length, ℕ, ◌++◌, ◌-◌, ◌<◌, ◌∙◌, ◌∷◌, ◌≡◌, ◌≤◌}
 use Rattle.zone_name.specs.Common.{AreOctets}
-use Rattle.zone_name.specs.Name.{IsCasedLabel, IsCasedName}
+use Rattle.zone_name.specs.Name.{IsCasedLabel}
 use Rattle.zone_name.specs.Text.{label_text, name_text}
 use Rattle.zone_rdata.proofs.Octets.Sent.{frame_same}
-use Rattle.zone_words.proofs.Printed.Counted.{counted_octets}
 use Rattle.zone_words.specs.Kinds.Name.{PrintsName, StatesSomeName}
 use Rattle.zone_words.specs.Machine.Names.{NoLabel, PrintsLabels}
 use Rattle.zone_words.specs.Printed.{NoFront, PrintsFront}

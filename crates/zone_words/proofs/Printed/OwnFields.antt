@@ -1,7 +1,7 @@
 -- The types whose fields depend on octets or on items before them: which fields they are.
 use Rattle.zone_rdata.specs.Limits.{longest_data}
 use Rattle.zone_rdata.specs.Spelling.{RawItem, bare, quoted}
-use Rattle.zone_words.proofs.Common.{Labels, List, NamedField, Option, Some, StateParts, StatesBare, StatesField, TouchingItem, [], ap, ap₂, arith, drop, false, get_or, items_after, length, min, number_at, own_items, refl, subst, sym, take, text_meaning, ℕ, ◌%◌, ◌+◌, ◌++◌, ◌<◌, ◌∙◌, ◌∷◌, ◌≡◌, ◌≤◌}
+use Rattle.zone_words.proofs.Common.{Labels, List, NamedField, Option, Some, StateParts, StatesBare, StatesField, TouchingItem, [], ap, ap₂, arith, drop, false, get_or, items_after, length, min, number_at, own_items, refl, subst, sym, take, text_meaning, ℕ, ◌%◌, ◌++◌, ◌<◌, ◌∙◌, ◌∷◌, ◌≡◌, ◌≤◌}
 use Rattle.zone_words.proofs.Gateways.{of_digits}
 use Rattle.zone_words.proofs.Printed.Gateways.{gateway_states}
 use Rattle.zone_words.proofs.Printed.Numbers.{u8_printed_states}

@@ -1,6 +1,6 @@
 -- A name that is printed is spelled under every origin, and stands as a bare item.
-use Rattle.std.proofs.Common.{map, not, rules}
-use Rattle.zone_words.proofs.Common.{AllByRecursion, AreOctets, Bool, IsUnit, Labels, List, Option, Some, SpellsCased, Written, [], append-nil, append_assoc, arith, flat_map, length, length-map, refl, subst, sym, written_octets, written_text, ℕ, ◌++◌, ◌<◌, ◌∷◌, ◌≡◌}
+use Rattle.std.proofs.Common.{map, rules}
+use Rattle.zone_words.proofs.Common.{AllByRecursion, AreOctets, Bool, IsUnit, Labels, List, Option, Some, SpellsCased, Written, [], append-nil, append_assoc, arith, flat_map, length-map, refl, subst, sym, written_octets, written_text, ℕ, ◌++◌, ◌<◌, ◌∷◌, ◌≡◌}
 use Rattle.zone_name.proofs.Texts.Bare.{StandsBare, bare_append, bare_octets, bare_unit, not_bare}
 use Rattle.zone_name.proofs.Texts.Lawful.{printed_text, value_by, written_by}
 use Rattle.zone_name.specs.Name.{IsCasedLabel, IsCasedName}

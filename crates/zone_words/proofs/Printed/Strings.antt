@@ -1,7 +1,6 @@
 -- Character-strings as they are printed.
-use Rattle.zone_words.proofs.Common.{AllZip, List, RawItem, [], add-zero, ap, append-nil, append_assoc, arith, flat_map, flat_map-append, length, map, map-append, nil_from_length, refl, slice_index, sym, with_length, ℕ, ◌++◌, ◌<◌, ◌∙◌, ◌∷◌, ◌≡◌, AllByRecursion, AllByRecursion-append}
+use Rattle.zone_words.proofs.Common.{AllZip, List, RawItem, [], ap, append-nil, append_assoc, arith, flat_map, length, map, nil_from_length, refl, slice_index, sym, with_length, ℕ, ◌++◌, ◌<◌, ◌∙◌, ◌∷◌, ◌≡◌, AllByRecursion, AllByRecursion-append}
 use Rattle.zone_rdata.proofs.Octets.Sent.{frame_same}
-use Rattle.zone_rdata.specs.Fields.Strings.{AreStrings}
 use Rattle.zone_rdata.specs.Item.{quoted}
 use Rattle.zone_rdata.specs.Strings.{IsString, SpellsString, inside_text, string_text}
 use Rattle.zone_rdata.specs.Text.{written_item}

@@ -5,7 +5,7 @@ use Rattle.zone_words.specs.DataItem.{TouchingItem}
 use Rattle.zone_words.specs.Field.{StatesField}
 use Rattle.zone_words.specs.Parameters.Printed.{written_touching}
 use Rattle.zone_words.specs.PrintedData.{PrintsField}
-use Rattle.zone_words.specs.Table.{Fields, NamedField, of_amtrelay, of_hip, of_ipseckey, same}
+use Rattle.zone_words.specs.Table.{NamedField}
 use Rattle.zone_words.specs.declared.field.FieldKind.{FieldKind}
 use Rattle.zone_words.specs.declared.field.FieldKind.TheVariants.{Bare, OneString}
 

@@ -1,7 +1,7 @@
 -- How the parameters of a service are printed (RFC 9460 2.1): in the order of their octets, each by
 -- the name of its key where its value is one of that key, and else by the number of its key with its
 -- value as opaque octets.
-use Rattle.std.specs.Prelude.{◌≡◌, ℕ, ◌<◌, ◌^◌, ◌⊎◌, Bool, true, false, List, [], ◌∷◌, ◌++◌, length, map, get_or, decimal, if◌then◌else◌}
+use Rattle.std.specs.Prelude.{◌≡◌, ℕ, ◌<◌, ◌^◌, ◌⊎◌, true, false, List, [], ◌∷◌, ◌++◌, length, map, get_or, decimal, if◌then◌else◌}
 use Rattle.base64.specs.Engines.{standard}
 use Rattle.base64.specs.GeneralPurpose.{encode_of}
 use Rattle.std.specs.Int.{w16, to_be_bytes}

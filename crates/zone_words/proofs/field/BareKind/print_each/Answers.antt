@@ -1,6 +1,6 @@
 use Rattle.zone_words.proofs.Common.{arith, nat_tests}
 use Rattle.zone_words.proofs.Printed.PassedNone.{none_passed}
-use Rattle.zone_words.proofs.PrintedEach.{each_printed, no_more, no_progress, none_printed_yet, one_more}
+use Rattle.zone_words.proofs.PrintedEach.{no_more, no_progress, none_printed_yet, one_more}
 use Rattle.zone_words.proofs.field.BareKind.print_each.Goals as goal
 
 pub loop-rest-init : goal.loop-rest-init

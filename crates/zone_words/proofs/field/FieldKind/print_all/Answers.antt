@@ -1,6 +1,5 @@
-use Rattle.std.specs.Prelude.{true}
 use Rattle.zone_words.proofs.Common.{ap, refl}
-use Rattle.zone_words.proofs.PrintedFields.{all_unprinted, apart_printed, no_items_given, no_parameters_given, nothing_given}
+use Rattle.zone_words.proofs.PrintedFields.{apart_printed, no_items_given, no_parameters_given, nothing_given}
 use Rattle.zone_words.proofs.PrintedKinds.{none_weaker, ok_goes}
 use Rattle.zone_words.proofs.field.FieldKind.print_all.Goals as goal
 use Rattle.zone_words.specs.Machine.PrintedFields.{prints_all}

@@ -1,5 +1,5 @@
 use Rattle.zone_words.proofs.Common.{arith, length, nat_tests, nil_from_length, on_ok_weaker, ◌<◌, ◌≡◌}
-use Rattle.zone_words.proofs.Printed.Types.{no_types, none_of_none, types_printed}
+use Rattle.zone_words.proofs.Printed.Types.{none_of_none, types_printed}
 use Rattle.zone_words.proofs.kinds.types.print_types.Goals as goal
 
 pub returns-then-is_empty-clause-none : goal.returns-then-is_empty-clause-none

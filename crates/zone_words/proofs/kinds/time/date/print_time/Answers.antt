@@ -1,4 +1,4 @@
-use Rattle.zone_words.proofs.Common.{arith, refl, to_be_bytes, w32}
+use Rattle.zone_words.proofs.Common.{refl, to_be_bytes, w32}
 use Rattle.zone_words.proofs.Printed.Fronts.{front_printed}
 use Rattle.zone_words.proofs.Printed.Time.{time_count, time_printed}
 use Rattle.zone_words.specs.Kinds.Time.{PrintsTime, StatesTime}
