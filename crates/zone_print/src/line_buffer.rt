@@ -114,19 +114,26 @@ impl<'z> LineBuffer<'z> {
     pub(crate) fn push_record(&mut self, rr: RrRef<'z>) -> Result<(), AllocError>
         ensures { OnOk result (self.new ≡ self.old ++ line (record_of rr.entry)) }
     {
-        let last = self.last.take();
-        hold_owner(&mut self.owner, &last, &rr)?;
-        self.before_kind = hold_middle(&mut self.middle, self.before_kind, &last, &rr)?;
-        self.octets.extend_from_slice(self.owner.as_slice())?;
-        self.octets.extend_from_slice(self.middle.as_slice())?;
-        push_data(&mut self.octets, &rr)?;
+        if let Err(refused) = hold_owner(&mut self.owner, &self.last, &rr) {
+            self.last = None;
+            return Err(refused);
+        }
+        match hold_middle(&mut self.middle, self.before_kind, &self.last, &rr) {
+            Ok(before_kind) => self.before_kind = before_kind,
+            Err(refused) => {
+                self.last = None;
+                return Err(refused);
+            }
+        }
         self.last = Some(Head {
-            owner: rr.owner,
+            owner: rr.owner.copy(),
             ttl: rr.ttl,
             class: rr.class,
             kind: rr.kind,
         });
-        Ok(())
+        self.octets.extend_from_slice(self.owner.as_slice())?;
+        self.octets.extend_from_slice(self.middle.as_slice())?;
+        push_data(&mut self.octets, &rr)
     }
 }
 
