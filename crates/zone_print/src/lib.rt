@@ -8,6 +8,7 @@ mod line;
 mod line_buffer;
 mod octet_vec;
 mod print;
+mod text_buffer;
 mod write;
 
 pub use line::push_line;

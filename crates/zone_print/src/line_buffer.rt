@@ -5,9 +5,10 @@ ghost use Rattle.zone_print.specs.Machine.Middle.{HoldsMiddle};
 ghost use Rattle.zone_rdata.specs.Lent.{record_of};
 
 use crate::line::{push_before_kind, push_data, push_kind};
+use crate::text_buffer::TextBuffer;
 use std::alloc::{AllocError, Global};
 use std::marker::Model;
-use zone_name::NameRef;
+use zone_name::{NameRef, Sink};
 use zone_rdata::{Class, Kind, RrRef};
 
 /// What a line may have in common with the next one.
@@ -22,13 +23,13 @@ struct Head<'z> {
 /// Lines that are gathered. What a line has in common with the one before it is copied.
 #[derive(Drop)]
 pub(crate) struct LineBuffer<'z> {
-    octets: Vec<u8>,
+    octets: TextBuffer,
     /// The last line's; `None` where `owner` and `middle` are those of no line.
     last: Option<Head<'z>>,
     /// The text of its owner.
-    owner: Vec<u8>,
+    owner: TextBuffer,
     /// What stands between its owner and its data.
-    middle: Vec<u8>,
+    middle: TextBuffer,
     /// How many octets of that stand before the type.
     before_kind: usize,
 }
@@ -40,10 +41,10 @@ impl<'z> Model for LineBuffer<'z> {
 
     ghost Value = { List ℕ };
 
-    ghost view = { λ b. b.octets.items };
+    ghost view = { λ b. b.octets };
 
-    ghost invariant = { λ b. IfSome b.last (λ h. (b.owner.items ≡ name_text h.owner)
-        × HoldsMiddle b.middle.items b.before_kind h.ttl h.class h.kind) };
+    ghost invariant = { λ b. IfSome b.last (λ h. (b.owner ≡ name_text h.owner)
+        × HoldsMiddle b.middle b.before_kind h.ttl h.class h.kind) };
 }
 
 impl<'z> LineBuffer<'z> {
@@ -52,10 +53,10 @@ impl<'z> LineBuffer<'z> {
         ensures { result ≡ [] }
     {
         LineBuffer {
-            octets: Vec::new(alloc),
+            octets: TextBuffer::new(alloc),
             last: None,
-            owner: Vec::new(alloc),
-            middle: Vec::new(alloc),
+            owner: TextBuffer::new(alloc),
+            middle: TextBuffer::new(alloc),
             before_kind: 0,
         }
     }
@@ -69,10 +70,10 @@ impl<'z> LineBuffer<'z> {
         ensures { IfOk result (λ buffer. buffer ≡ []) }
     {
         Ok(LineBuffer {
-            octets: Vec::with_capacity(alloc, len)?,
+            octets: TextBuffer::with_capacity(alloc, len)?,
             last: None,
-            owner: Vec::new(alloc),
-            middle: Vec::new(alloc),
+            owner: TextBuffer::new(alloc),
+            middle: TextBuffer::new(alloc),
             before_kind: 0,
         })
     }
@@ -81,7 +82,7 @@ impl<'z> LineBuffer<'z> {
     pub(crate) fn into_octets(self) -> Vec<u8>
         ensures { result.items ≡ self.entry }
     {
-        self.octets
+        self.octets.into_octets()
     }
 
     /// The lines.
@@ -110,15 +111,11 @@ impl<'z> LineBuffer<'z> {
     /// # Errors
     ///
     /// Want of memory. A prefix of the line may have been appended.
-    #[tactic(auto, using(crate::proofs::Lines::line_pushed))]
     pub(crate) fn push_record(&mut self, rr: RrRef<'z>) -> Result<(), AllocError>
         ensures { OnOk result (self.new ≡ self.old ++ line (record_of rr.entry)) }
     {
-        if let Err(refused) = hold_owner(&mut self.owner, &self.last, &rr) {
-            self.last = None;
-            return Err(refused);
-        }
-        match hold_middle(&mut self.middle, self.before_kind, &self.last, &rr) {
+        let (owner, middle) = (&mut self.owner, &mut self.middle);
+        match hold_head(owner, middle, self.before_kind, &self.last, &rr) {
             Ok(before_kind) => self.before_kind = before_kind,
             Err(refused) => {
                 self.last = None;
@@ -131,16 +128,36 @@ impl<'z> LineBuffer<'z> {
             class: rr.class,
             kind: rr.kind,
         });
-        self.octets.extend_from_slice(self.owner.as_slice())?;
-        self.octets.extend_from_slice(self.middle.as_slice())?;
+        self.octets.push(self.owner.as_slice())?;
+        self.octets.push(self.middle.as_slice())?;
         push_data(&mut self.octets, &rr)
     }
 }
 
+/// Makes the texts the record's owner and what stands between that and its data, and tells how many
+/// octets of this stand before the type.
+fn hold_head(
+    owner: &mut TextBuffer,
+    middle: &mut TextBuffer,
+    before_kind: usize,
+    last: &Option<Head>,
+    rr: &RrRef,
+) -> Result<usize, AllocError>
+    requires owner { IfSome last.now (λ last. owner.old ≡ name_text last.owner) }
+    requires middle { IfSome last.now (λ last.
+        HoldsMiddle middle.old before_kind last.ttl last.class last.kind) }
+    ensures owner { OnOk result (owner.new ≡ name_text rr.now.owner) }
+    ensures middle { IfOk result (λ n.
+        HoldsMiddle middle.new n rr.now.ttl rr.now.class rr.now.kind) }
+{
+    hold_owner(owner, last, rr)?;
+    hold_middle(middle, before_kind, last, rr)
+}
+
 /// Makes the text that of the record's owner, where it isn't already the last one's.
-fn hold_owner(text: &mut Vec<u8>, last: &Option<Head>, rr: &RrRef) -> Result<(), AllocError>
-    requires { IfSome last.now (λ last. text.old.items ≡ name_text last.owner) }
-    ensures { OnOk result (text.new.items ≡ name_text rr.now.owner) }
+fn hold_owner(text: &mut TextBuffer, last: &Option<Head>, rr: &RrRef) -> Result<(), AllocError>
+    requires { IfSome last.now (λ last. text.old ≡ name_text last.owner) }
+    ensures { OnOk result (text.new ≡ name_text rr.now.owner) }
 {
     if let Some(last) = last {
         if last.owner.is_same(&rr.owner) {
@@ -155,15 +172,15 @@ fn hold_owner(text: &mut Vec<u8>, last: &Option<Head>, rr: &RrRef) -> Result<(),
 /// of it stand before the type. What is already the last one's stays.
 #[tactic(auto, using(crate::proofs::Lines::middle_kept))]
 fn hold_middle(
-    text: &mut Vec<u8>,
+    text: &mut TextBuffer,
     before_kind: usize,
     last: &Option<Head>,
     rr: &RrRef,
 ) -> Result<usize, AllocError>
     requires { IfSome last.now (λ last.
-        HoldsMiddle text.old.items before_kind last.ttl last.class last.kind) }
+        HoldsMiddle text.old before_kind last.ttl last.class last.kind) }
     ensures { IfOk result (λ n.
-        HoldsMiddle text.new.items n rr.now.ttl rr.now.class rr.now.kind) }
+        HoldsMiddle text.new n rr.now.ttl rr.now.class rr.now.kind) }
 {
     if let Some(last) = last {
         if last.ttl == rr.ttl && last.class == rr.class {
