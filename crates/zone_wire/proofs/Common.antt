@@ -62,7 +62,7 @@ pub use Rattle.zone_wire.specs.Machine.Parsing.{AreRecordsAt, HasRecordsFrom, Is
 pub use Rattle.zone_wire.specs.Machine.Room.{IsRoom, IsRun}
 pub use Rattle.zone_wire.specs.Machine.Sections.{after_header, and_then, at_offset, each_from, inside, question_at, questions_from, record_at, records_from, to_the_end, unless_faulted}
 unfoldable pub use Rattle.zone_wire.specs.Machine.Sections.{header_fault, sections_of}
-pub use Rattle.zone_wire.specs.Machine.Spot.{spot_of}
+pub use Rattle.zone_wire.specs.Machine.Spot.{known_of, spot_of}
 pub use Rattle.zone_wire.proofs.Records.NextAnswers.{Answered, answers_of, asks_for, before_others, has_first_id, is_no_class, of_answers, of_sections}
 unfoldable pub use Rattle.zone_wire.proofs.Records.NextAnswers.{answer_record, next_message, own_record, stream_records}
 pub use Rattle.zone_wire.specs.Machine.Transferring.{Among, Gains, Hands, HeadFault, IfNoMemory, IsAfter, ReadsNext, StopsIn, Takes, TakesEach, TakesHead, TakesMessage, TakesMessageUpTo, TakesUpTo, TakesWhole, other_id, other_zone, zone_held, zone_with}
@@ -80,4 +80,5 @@ pub use Rattle.zone_wire.specs.Visits.{LeadToLast, is_label, labels_in, pointers
 pub use Rattle.zone_wire.specs.Walk.{FaultHere, IsWalk, NameFault, Standing, Visit, Walks, at_fault, at_label, at_pointer, at_root, by_pointer, outside, over_label, to_fault, to_root, visit}
 pub use Rattle.zone_wire.specs.declared.cursor.Cursor.{Cursor}
 pub use Rattle.zone_wire.specs.declared.message.Question.{Question}
+pub use Rattle.zone_wire.specs.declared.spot.KnownStanding.{KnownStanding}
 pub use Rattle.zone_wire.specs.declared.transfer.Transfer.{Transfer}

@@ -4,9 +4,9 @@ ghost use Rattle.zone_wire.specs.Name.{Found};
 ghost use Rattle.zone_wire.specs.View.{raw_at, raw_with};
 
 use crate::header::RECORD_HEAD_LEN;
+use crate::known_name::read_known;
 use crate::labels::LabelRoom;
 use crate::lent::RawRrRef;
-use crate::name::read_name;
 use crate::number::{u16_at, u32_at};
 use crate::raw::{RawFields, RawRr};
 use std::marker::Model;
@@ -78,12 +78,10 @@ fn record_at<'m, 'r>(
     ensures octets { result.octets ≡ message.now }
     ensures at { IsRecordAt message.now offset result.at }
 {
-    match read_name(message, offset, labels) {
-        Ok((end, _)) => RawRrRef {
-            owner: labels.lend(),
-            fields: fields_after(message, offset, end),
-        },
-        Err(_) => unreachable!(),
+    let end = read_known(message, offset, labels);
+    RawRrRef {
+        owner: labels.lend(),
+        fields: fields_after(message, offset, end),
     }
 }
 

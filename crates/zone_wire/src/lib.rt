@@ -8,6 +8,7 @@ mod data;
 pub mod examples;
 mod framer;
 mod header;
+mod known_name;
 mod labels;
 pub mod laws;
 mod lent;

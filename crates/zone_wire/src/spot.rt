@@ -1,6 +1,6 @@
 ghost use Rattle.std.specs.Prelude.{◌≡◌, ◌+◌, ◌^◌, ◌<◌, ◌≤◌, length, slice_index, Some};
 ghost use Rattle.zone_wire.specs.Name.{target_at};
-ghost use Rattle.zone_wire.specs.Machine.Spot.{spot_of, standing_of, ticks_at};
+ghost use Rattle.zone_wire.specs.Machine.Spot.{known_of, spot_of, standing_of, ticks_at};
 ghost use Rattle.zone_wire.specs.Machine.Walk.{outset, past_label, past_pointer};
 ghost use Rattle.zone_wire.specs.Machine.Walk.{standing_in, label_of, pointer_of};
 
@@ -41,6 +41,16 @@ pub(crate) enum Standing {
     Bad(Cause),
 }
 
+/// What stands at one spot of what is known to be a name.
+#[derive(Clone, Copy, Debug)]
+pub(crate) enum KnownStanding {
+    Root,
+    /// A label, and how many octets it has.
+    Label(usize),
+    /// A pointer, and where it leads.
+    Pointer(usize),
+}
+
 /// What stands at a spot, by its first octet.
 #[tactic(auto, unfolding(crate::specs::Machine::Walk::standing_in))]
 pub(crate) fn look_at(message: &[u8], spot: Spot) -> Standing
@@ -73,6 +83,21 @@ pub(crate) fn step_at(message: &[u8], spot: Spot, ticks: &mut Ticks) -> Standing
         ticks.tick();
     }
     look_at(message, spot)
+}
+
+/// `look_at` where no fault is known to stand.
+#[inline(always)]
+#[tactic(auto, using(crate::proofs::Names::Walking::spot_known))]
+pub(crate) fn known_at(message: &[u8], spot: Spot) -> KnownStanding
+    requires { (known : KnownStanding)
+        × (standing_in message.now (spot_of spot) ≡ Some (known_of known)) }
+    ensures { standing_in message.now (spot_of spot) ≡ Some (known_of result) }
+{
+    match message[spot.offset] {
+        0 => KnownStanding::Root,
+        size @ 1..=63 => KnownStanding::Label(size as usize),
+        _ => KnownStanding::Pointer((u16_at(message, spot.offset) - POINTER_BITS) as usize),
+    }
 }
 
 /// A label of this many octets.

@@ -6,6 +6,8 @@ use Rattle.zone_rdata.specs.declared.fault.Fault.{Fault}
 use Rattle.zone_wire.specs.Machine.Walk.{Spot}
 use Rattle.zone_wire.specs.Walk.{Standing, at_root, at_label, at_pointer, at_fault}
 use Rattle.zone_wire.specs.declared.spot.Spot as held
+use Rattle.zone_wire.specs.declared.spot.KnownStanding as known
+use Rattle.zone_wire.specs.declared.spot.KnownStanding.TheVariants as known_to_be
 use Rattle.zone_wire.specs.declared.spot.Standing as found
 use Rattle.zone_wire.specs.declared.spot.Standing.TheVariants.{Outside, Root, Label, Pointer, Bad}
 
@@ -36,6 +38,12 @@ standing_of Root = Some at_root
 standing_of (Label size) = Some (at_label size)
 standing_of (Pointer target) = Some (at_pointer target)
 standing_of (Bad cause) = Some (at_fault (fault_for cause))
+
+-- what is known to stand at a spot
+abbrev pub known_of : known.KnownStanding → Standing
+known_of known_to_be.Root = at_root
+known_of (known_to_be.Label size) = at_label size
+known_of (known_to_be.Pointer target) = at_pointer target
 
 -- a look at a spot that lies in the message counts as one step
 abbrev pub ticks_at : Option Standing → ℕ
