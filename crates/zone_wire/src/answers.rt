@@ -78,7 +78,7 @@ fn record_at<'m, 'r>(
     ensures octets { result.octets ≡ message.now }
     ensures at { IsRecordAt message.now offset result.at }
 {
-    let end = read_known(message, offset, labels);
+    let (end, _) = read_known(message, offset, labels);
     RawRrRef {
         owner: labels.lend(),
         fields: fields_after(message, offset, end),

@@ -85,14 +85,17 @@ pub(crate) fn step_at(message: &[u8], spot: Spot, ticks: &mut Ticks) -> Standing
     look_at(message, spot)
 }
 
-/// `look_at` where no fault is known to stand.
+/// `step_at` where no fault is known to stand.
 #[inline(always)]
 #[tactic(auto, using(crate::proofs::Names::Walking::spot_known))]
-pub(crate) fn known_at(message: &[u8], spot: Spot) -> KnownStanding
-    requires { (known : KnownStanding)
+pub(crate) fn known_at(message: &[u8], spot: Spot, ticks: &mut Ticks) -> KnownStanding
+    requires known { (known : KnownStanding)
         × (standing_in message.now (spot_of spot) ≡ Some (known_of known)) }
-    ensures { standing_in message.now (spot_of spot) ≡ Some (known_of result) }
+    requires ticks { ticks.old < 256 }
+    ensures place { standing_in message.now (spot_of spot) ≡ Some (known_of result) }
+    ensures ticks { ticks.new ≡ ticks.old + 1 }
 {
+    ticks.tick();
     match message[spot.offset] {
         0 => KnownStanding::Root,
         size @ 1..=63 => KnownStanding::Label(size as usize),
