@@ -94,7 +94,7 @@ fn copy_folded(message: &[u8], start: usize, size: usize, room: &mut [u8], at: u
     ensures { take (at + size) room.new
         ≡ take at room.old ++ map folded_octet (take size (drop start message.now)) }
 {
-    if message.len() - start < size + LANES {
+    if start + size + LANES > message.len() {
         return copy_each(message, start, size, room, at);
     }
     let mut done = 0;

@@ -110,9 +110,9 @@ fn label_at(message: &[u8], spot: Spot, size: usize) -> Standing
     requires size { size < 256 }
     ensures { standing_of result ≡ Some (label_of message.now (spot_of spot) size) }
 {
-    if size >= message.len() - spot.offset {
+    if spot.offset + size >= message.len() {
         Standing::Bad(Cause::ShortMessage)
-    } else if spot.octets + size + 2 > MAX_NAME_LEN {
+    } else if spot.octets + size > MAX_NAME_LEN - 2 {
         Standing::Bad(Cause::NameTooLong)
     } else {
         Standing::Label(size)
@@ -126,7 +126,7 @@ fn pointer_at(message: &[u8], spot: Spot) -> Standing
     ensures { standing_of result ≡ Some
         (pointer_of message.now (spot_of spot) (target_at message.now spot.offset)) }
 {
-    if message.len() - spot.offset < 2 {
+    if spot.offset + 1 >= message.len() {
         return Standing::Bad(Cause::ShortMessage);
     }
     let target = (u16_at(message, spot.offset) - POINTER_BITS) as usize;

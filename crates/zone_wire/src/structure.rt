@@ -96,16 +96,16 @@ fn question_end(message: &[u8], offset: usize) -> Result<usize, Cause>
 fn record_end(message: &[u8], offset: usize) -> Result<usize, Cause>
     ensures { end_or_fault result ≡ part_end_of (λ r. r.end) (record_at message.now offset) }
 {
-    let end = walk_to_root(message, offset)?;
-    if message.len() - end < RECORD_HEAD_LEN {
+    let head = walk_to_root(message, offset)?;
+    let start = head + RECORD_HEAD_LEN;
+    if start > message.len() {
         return Err(Cause::ShortMessage);
     }
-    let start = end + RECORD_HEAD_LEN;
-    let size = u16_at(message, end + 8) as usize;
-    if message.len() - start < size {
+    let end = start + u16_at(message, head + 8) as usize;
+    if end > message.len() {
         return Err(Cause::ShortMessage);
     }
-    Ok(start + size)
+    Ok(end)
 }
 
 /// The offset after so many questions, of which there is at most one.
