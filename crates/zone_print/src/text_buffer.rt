@@ -7,7 +7,7 @@ use std::marker::Model;
 use zone_name::Sink;
 
 /// Text that is gathered. What it grows by is written at once, so to append is to copy and to clear
-/// is to forget, where a `Vec` takes twice as long for a few octets. Contracts see the octets.
+/// is to forget, where a `Vec` has more to do for a few octets. Contracts see the octets.
 #[derive(Drop)]
 pub(crate) struct TextBuffer {
     /// The text, and octets after it that say nothing.
