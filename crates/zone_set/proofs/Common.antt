@@ -43,7 +43,7 @@ pub use Rattle.zone_set.specs.Builder.{Accepts, Adds, AddsEach, AreTwoSoas, HasN
 pub use Rattle.zone_set.specs.Machine.Bulk.{AreNeighbours, KeepsList, StandNext, is_repeat, listed, placed_at, span, span_len, with_hint}
 pub use Rattle.zone_set.specs.Machine.Held.{AreAllKept, HasOtherTtl, HoldsEntries, IsComparable, IsEntry, IsFirstOutside, IsLinked, IsPut, KeepsSets, all_records, entry_record}
 pub use Rattle.zone_set.specs.Machine.Hint.{AreDigits, IsHint, IsPutBefore, after, before, first_digits, soa, within}
-pub use Rattle.zone_set.specs.Machine.LabelKey.{label_key, owner_key}
+pub use Rattle.zone_set.specs.Machine.LabelKey.{octets_key, owner_key}
 pub use Rattle.zone_set.specs.Machine.Owner.{AreFirst, IsFirst}
 pub use Rattle.zone_set.specs.Machine.Stored.{AreKept, IsStored, read_record, record_from, stored}
 pub use Rattle.zone_set.specs.Message.{message_len, message_octets}

@@ -6,3 +6,4 @@ pub mod HintWalk
 pub mod Keyed
 pub mod LabelKey
 pub mod Numbers
+pub mod Own

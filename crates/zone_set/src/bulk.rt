@@ -54,8 +54,8 @@ fn sort_and_look(class: Class, base_len: usize, octets: &[u8], entries: &mut Vec
     ensures next { IsTrue result
         → AreNeighbours (all_records class octets.now entries.new.items) }
 {
-    // The root's octet is no digit, and a hint has seven after the base's.
-    let front = base_len.saturating_add(6);
+    // The root's octet is no digit, and a hint has nine after the base's.
+    let front = base_len.saturating_add(8);
     let entries = entries.as_mut_slice();
     if put_runs(class, octets, entries, front) {
         return true;

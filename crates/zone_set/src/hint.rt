@@ -1,7 +1,7 @@
-ghost use Rattle.std.specs.Prelude.{◌≡◌, ◌<◌, ◌≤◌, ◌++◌, ◌∷◌, ◌^◌, [], length, take, List, ℕ, IfNone, IfSome};
+ghost use Rattle.std.specs.Prelude.{◌≡◌, ◌↔◌, ◌<◌, ◌≤◌, ◌++◌, ◌+◌, ◌*◌, ◌^◌, [], length, map, List, ℕ, IfNone, IfSome, IsTrue};
 ghost use Rattle.zone_name.specs.Name.{IsWithin};
 ghost use Rattle.zone_set.specs.Machine.Hint.{first_digits, GathersOnes, IsHint, IsPutBefore};
-ghost use Rattle.zone_set.specs.Machine.LabelKey.{label_key, longer_digit, octets_key, owner_key};
+ghost use Rattle.zone_set.specs.Machine.LabelKey.{inner_digit, owner_key};
 
 use crate::order::are_same;
 use crate::owner::{first_label, past_far};
@@ -10,40 +10,45 @@ use zone_name::{Name, NameRef};
 use zone_rdata::Kind;
 
 /// The hint of an owner before the base, but for those at or below it.
-const BEFORE: u64 = 1 << 57;
+const BEFORE: u64 = 1;
 
 /// The least hint of an owner at or below the base.
-const WITHIN: u64 = 2 << 57;
+const WITHIN: u64 = 2;
 
 /// The hint of an owner after the base, but for those at or below it.
-const AFTER: u64 = 3 << 57;
+const AFTER: u64 = WITHIN + (1 << 63);
 
-/// What a digit counts that three to the base 273 follow.
-const THREE: u64 = 273 * 273 * 273;
+/// What a digit to the base 128 counts that two follow.
+const TWO: u64 = 128 * 128;
 
-/// The highest of seven digits to the base 273.
-const HIGHEST: u64 = 273 * 273 * 273 * 273 * 273 * 273;
+/// What one counts that three follow.
+const THREE: u64 = 128 * 128 * 128;
 
-/// The digits of octets that begin a label and that others follow, sixteen a row. A look-up costs
-/// less than comparisons with the ends of two ranges.
+/// The highest of nine digits.
+const HIGHEST: u64 = 1 << 56;
+
+/// The lowest bit of each of nine digits, which is 1 in those of octets that share a digit.
+const LOWEST_BITS: u64 = 0x0102_0408_1020_4081;
+
+/// The digits of octets that others follow in their label, sixteen a row.
 #[rattlefmt::skip]
-static LONGER_DIGITS: [u16; 256] = [
-    1, 2, 3, 4, 5, 6, 7, 8, 9, 10, 11, 12, 13, 14, 15, 16,
-    17, 18, 19, 20, 21, 22, 23, 24, 25, 26, 27, 28, 29, 30, 31, 32,
-    33, 34, 35, 36, 37, 38, 39, 40, 41, 42, 43, 44, 45, 46, 47, 48,
-    50, 52, 54, 56, 58, 60, 62, 64, 66, 68, 69, 70, 71, 72, 73, 74,
-    75, 76, 77, 78, 79, 80, 81, 82, 83, 84, 85, 86, 87, 88, 89, 90,
-    91, 92, 93, 94, 95, 96, 97, 98, 99, 100, 101, 102, 103, 104, 105, 106,
-    107, 109, 111, 113, 115, 117, 119, 120, 121, 122, 123, 124, 125, 126, 127, 128,
-    129, 130, 131, 132, 133, 134, 135, 136, 137, 138, 139, 140, 141, 142, 143, 144,
-    145, 146, 147, 148, 149, 150, 151, 152, 153, 154, 155, 156, 157, 158, 159, 160,
-    161, 162, 163, 164, 165, 166, 167, 168, 169, 170, 171, 172, 173, 174, 175, 176,
-    177, 178, 179, 180, 181, 182, 183, 184, 185, 186, 187, 188, 189, 190, 191, 192,
-    193, 194, 195, 196, 197, 198, 199, 200, 201, 202, 203, 204, 205, 206, 207, 208,
-    209, 210, 211, 212, 213, 214, 215, 216, 217, 218, 219, 220, 221, 222, 223, 224,
-    225, 226, 227, 228, 229, 230, 231, 232, 233, 234, 235, 236, 237, 238, 239, 240,
-    241, 242, 243, 244, 245, 246, 247, 248, 249, 250, 251, 252, 253, 254, 255, 256,
-    257, 258, 259, 260, 261, 262, 263, 264, 265, 266, 267, 268, 269, 270, 271, 272,
+static INNER_DIGITS: [u8; 256] = [
+    1, 1, 1, 1, 1, 1, 1, 1, 1, 1, 1, 1, 1, 1, 1, 1,
+    1, 1, 1, 1, 1, 1, 1, 1, 1, 1, 1, 1, 1, 1, 1, 1,
+    1, 2, 4, 6, 8, 10, 12, 14, 16, 18, 20, 22, 24, 26, 28, 30,
+    32, 34, 36, 38, 40, 42, 44, 46, 48, 50, 52, 54, 56, 58, 60, 62,
+    64, 65, 65, 65, 65, 65, 65, 65, 65, 65, 65, 65, 65, 65, 65, 65,
+    65, 65, 65, 65, 65, 65, 65, 65, 65, 65, 65, 65, 65, 65, 65, 66,
+    68, 70, 72, 74, 76, 78, 80, 82, 84, 86, 88, 90, 92, 94, 96, 98,
+    100, 102, 104, 106, 108, 110, 112, 114, 116, 118, 120, 121, 121, 121, 121, 121,
+    121, 121, 121, 121, 121, 121, 121, 121, 121, 121, 121, 121, 121, 121, 121, 121,
+    121, 121, 121, 121, 121, 121, 121, 121, 121, 121, 121, 121, 121, 121, 121, 121,
+    121, 121, 121, 121, 121, 121, 121, 121, 121, 121, 121, 121, 121, 121, 121, 121,
+    121, 121, 121, 121, 121, 121, 121, 121, 121, 121, 121, 121, 121, 121, 121, 121,
+    121, 121, 121, 121, 121, 121, 121, 121, 121, 121, 121, 121, 121, 121, 121, 121,
+    121, 121, 121, 121, 121, 121, 121, 121, 121, 121, 121, 121, 121, 121, 121, 121,
+    121, 121, 121, 121, 121, 121, 121, 121, 121, 121, 121, 121, 121, 121, 121, 121,
+    121, 121, 121, 121, 121, 121, 121, 121, 121, 121, 121, 121, 121, 121, 121, 121,
 ];
 
 /// The hint of a record: a number that is never less than that of a record before it in canonical
@@ -64,23 +69,33 @@ pub(crate) fn hint_of(base: &Name, owner: &NameRef<'_>, kind: Kind) -> u64
     }
 }
 
-/// Whether a hint is that of an owner at or below the base.
-pub(crate) fn is_within(hint: u64) -> bool {
-    WITHIN <= hint && hint < AFTER
+/// How many of the nine digits of a hint don't tell owners apart that have the same hint, where it is
+/// that of owners at or below the base. `None`: it is another.
+pub(crate) fn untold_digits(hint: u64) -> Option<usize> {
+    if hint < WITHIN || hint >= AFTER {
+        return None;
+    }
+    let key = hint - WITHIN;
+    let zeros = key.trailing_zeros() / 7;
+    // The digits of octets that have none of their own; after these there are zeros.
+    match key.checked_shr(7 * zeros) {
+        Some(digits) if matches!(digits & 127, 1 | 65 | 121) => Some(zeros as usize + 1),
+        _ => Some(0),
+    }
 }
 
-/// The first seven digits of the key of the labels before the base's. `None`: the owner doesn't lie
+/// The first nine digits of the key of the labels before the base's. `None`: the owner doesn't lie
 /// at or below the base.
 fn front_key(base: &Name, owner: &NameRef<'_>) -> Option<u64>
     ensures within { IfSome result (λ key. (front : List (List ℕ))
-        × (owner.now ≡ front ++ base.now) × (key ≡ first_digits 7 (owner_key front))) }
-    ensures short { IfSome result (λ key. key < 2 ^ 57) }
+        × (owner.now ≡ front ++ base.now) × (key ≡ first_digits 9 (owner_key front))) }
+    ensures short { IfSome result (λ key. key < 2 ^ 63) }
     ensures none { IfNone result (IsWithin owner.now base.now → ⊥) }
 {
     let ending = base.wire();
-    // A digit takes up two octets at most: before fourteen more, seven follow.
-    let near = past_far(owner.wire(), ending.len() + 14);
-    let (mut key, mut left) = gather_seven(near, ending.len());
+    // A label takes up one octet more than it has digits: before eighteen more, nine follow.
+    let near = past_far(owner.wire(), ending.len() + 18);
+    let (mut key, mut left) = gather_nine(near, ending.len());
     // The octets of the labels that are left become fewer, until they are as many as the base's.
     while left.len() > ending.len() {
         let (label, rest) = first_label(left)?;
@@ -94,129 +109,181 @@ fn front_key(base: &Name, owner: &NameRef<'_>) -> Option<u64>
     }
 }
 
-/// The number of the first seven labels, if each is a hexadecimal digit, as in an address in
-/// ip6.arpa (RFC 3596 2.5), and octets follow that are as many as said; and what follows them. Else
-/// that of no label.
-fn gather_seven(octets: &[u8], near: usize) -> (u64, &[u8])
+/// The number of the first nine labels, if each is an octet that has digits of its own, as in an
+/// address in ip6.arpa (RFC 3596 2.5), and octets follow that are as many as said; and what follows
+/// them. Else that of no label.
+fn gather_nine(octets: &[u8], near: usize) -> (u64, &[u8])
     requires { near ≤ 255 }
     ensures { GathersOnes octets.now near result.0 result.1.now }
 {
     // Most names are short.
-    if octets.len() < near + 14 {
+    if octets.len() < near + 18 {
         return (0, octets);
     }
-    let Some((first, rest)) = octets.split_first_chunk::<14>() else {
+    let Some((first, rest)) = octets.split_first_chunk::<18>() else {
         return (0, octets);
     };
-    match seven_alone(first) {
+    match nine_alone(first) {
         Some(number) => (number, rest),
         None => (0, octets),
     }
 }
 
-/// The number of seven labels of one hexadecimal digit each, the last one's first.
-fn seven_alone(octets: &[u8; 14]) -> Option<u64>
+/// The number of nine labels of one octet each that has digits of its own, the last one's first.
+fn nine_alone(octets: &[u8; 18]) -> Option<u64>
     ensures { IfSome result (λ number. GathersOnes octets.now 0 number []) }
 {
-    let [n0, c0, n1, c1, n2, c2, n3, c3, n4, c4, n5, c5, n6, c6] = *octets;
-    if n0 != 1 || n1 != 1 || n2 != 1 || n3 != 1 || n4 != 1 || n5 != 1 || n6 != 1 {
+    let [
+        n0,
+        c0,
+        n1,
+        c1,
+        n2,
+        c2,
+        n3,
+        c3,
+        n4,
+        c4,
+        n5,
+        c5,
+        n6,
+        c6,
+        n7,
+        c7,
+        n8,
+        c8,
+    ] = *octets;
+    if n0 != 1 || n1 != 1 || n2 != 1 || n3 != 1 || n4 != 1 {
         return None;
     }
-    let number = (alone_digit(c6)? * 273 + alone_digit(c5)?) * 273 + alone_digit(c4)?;
-    let number = (number * 273 + alone_digit(c3)?) * 273 + alone_digit(c2)?;
-    Some((number * 273 + alone_digit(c1)?) * 273 + alone_digit(c0)?)
-}
-
-/// The digit of a label of one octet, if it has no other, since the octet is hexadecimal.
-#[inline(always)]
-pub(crate) fn alone_digit(octet: u8) -> Option<u64>
-    ensures digit { IfSome result (λ digit. label_key (octet ∷ []) ≡ digit ∷ []) }
-    ensures low { IfSome result (λ digit. digit < 273) }
-    ensures none { IfNone result (label_key (octet ∷ []) ≡ longer_digit octet ∷ (0 ∷ [])) }
-{
-    match octet {
-        b'0'..=b'9' => Some(2 * octet as u64 - 47),
-        b'a'..=b'f' => Some(2 * octet as u64 - 86),
-        _ => None,
+    if n5 != 1 || n6 != 1 || n7 != 1 || n8 != 1 {
+        return None;
+    }
+    let six = three(c8, c7, c6) * THREE + three(c5, c4, c3);
+    let digits = six * THREE + three(c2, c1, c0);
+    if digits & LOWEST_BITS == 0 {
+        // Each ends its label.
+        Some(digits - LOWEST_BITS)
+    } else {
+        None
     }
 }
 
-/// Puts a label and its end before the digits of a number.
+/// Puts a label before the digits of a number, of which the last ones go.
 fn put_label(label: &[u8], after: u64) -> u64
-    ensures { IsPutBefore (label_key label.now) after result }
+    ensures { IsPutBefore label.now after result }
 {
     match label {
-        [] => put_digit(0, after),
-        [octet] => put_alone(*octet, after),
-        [octet, next, others @ ..] => match label.split_first_chunk::<7>() {
-            Some((front, _)) => seven_digits(front),
-            None => put_longer(longer_digit(*octet), *next as u64 + 1, others, after),
-        },
+        [] => after,
+        [a] => put_own(label, one(*a), 56, after),
+        [a, b] => put_own(label, two(*a, *b), 49, after),
+        [a, b, c] => put_own(label, three(*a, *b, *c), 42, after),
+        _ => put_longer(label, after),
     }
 }
 
-/// The digits of the first seven octets of a label, after which none counts.
-fn seven_digits(front: &[u8; 7]) -> u64
-    ensures { (rest digits : List ℕ)
-        → result ≡ first_digits 7 (label_key (front.now ++ rest) ++ digits) }
+/// Puts a label of four octets or more before the digits of a number, of which the last ones go.
+fn put_longer(label: &[u8], after: u64) -> u64
+    requires { 4 ≤ length label.now }
+    ensures { IsPutBefore label.now after result }
 {
-    let [c0, c1, c2, c3, c4, c5, c6] = *front;
-    let front = (longer_digit(c0) * 273 + c1 as u64 + 1) * 273 + c2 as u64 + 1;
-    let front = (front * 273 + c3 as u64 + 1) * 273 + c4 as u64 + 1;
-    (front * 273 + c5 as u64 + 1) * 273 + c6 as u64 + 1
-}
-
-/// Puts the label of one octet, which has its end in its digit if it is hexadecimal.
-fn put_alone(octet: u8, after: u64) -> u64
-    ensures { IsPutBefore (label_key (octet ∷ [])) after result }
-{
-    match alone_digit(octet) {
-        Some(digit) => put_digit(digit, after),
-        // The end is 0.
-        None => longer_digit(octet) * HIGHEST + after / (273 * 273),
+    let Some((front, rest)) = label.split_first_chunk::<4>() else {
+        unreachable!();
+    };
+    let [a, b, c, d] = *front;
+    let four = three(a, b, c) * 128 + one(d);
+    match rest {
+        [] => put_own(label, four, 35, after),
+        [e] => put_own(label, four * 128 + one(*e), 28, after),
+        [e, f] => put_own(label, four * TWO + two(*e, *f), 21, after),
+        [e, f, g] => put_own(label, four * THREE + three(*e, *f, *g), 14, after),
+        [e, f, g, h] => {
+            let seven = four * THREE + three(*e, *f, *g);
+            put_own(label, seven * 128 + one(*h), 7, after)
+        }
+        [e, f, g, h, i, more @ ..] => {
+            let seven = four * THREE + three(*e, *f, *g);
+            put_nine(label, seven * TWO + two(*h, *i), more.is_empty(), after)
+        }
     }
 }
 
-/// The digit of an octet that begins a label and that others follow.
+/// Puts a label of fewer than nine octets before the digits of a number, by its own: those of octets
+/// that others follow.
 #[inline(always)]
-pub(crate) fn longer_digit(octet: u8) -> u64
-    ensures { result ≡ longer_digit octet }
+fn put_own(label: &[u8], digits: u64, shift: u32, after: u64) -> u64
+    requires some { 0 < length label.now }
+    requires room { 7 * length label.now + shift ≡ 63 }
+    requires digits { digits ≡ first_digits (length label.now) (map inner_digit label.now) }
+    ensures { IsPutBefore label.now after result }
 {
-    LONGER_DIGITS[octet as usize] as u64
-}
-
-/// Puts two digits, octets and the end of their label before the digits of a number, at most seven. An
-/// octet counts one more, since the end is 0.
-fn put_longer(digit: u64, next: u64, octets: &[u8], after: u64) -> u64
-    requires first { digit ≤ 272 }
-    requires second { next ≤ 272 }
-    requires few { length octets.now ≤ 4 }
-    ensures { IsPutBefore (digit ∷ (next ∷ octets_key octets.now)) after result }
-{
-    // One division a label, by as many digits as are put.
-    let two = digit * 273 + next;
-    match octets {
-        [] => two * (THREE * 273 * 273) + after / THREE,
-        [a] => (two * 273 + *a as u64 + 1) * (THREE * 273) + after / (THREE * 273),
-        [a, b] => {
-            let four = (two * 273 + *a as u64 + 1) * 273 + *b as u64 + 1;
-            four * THREE + after / (THREE * 273 * 273)
-        }
-        [a, b, c, more @ ..] => {
-            let four = (two * 273 + *a as u64 + 1) * 273 + *b as u64 + 1;
-            let five = four * 273 + *c as u64 + 1;
-            match more {
-                [] => five * (273 * 273) + after / (THREE * THREE),
-                [d, ..] => (five * 273 + *d as u64 + 1) * 273,
-            }
-        }
+    if digits & LOWEST_BITS == 0 {
+        // The last octet ends the label.
+        ((digits - 1) << shift) + (after >> (63 - shift))
+    } else {
+        put_octets(label, after)
     }
 }
 
-/// Puts a digit before those of a number, of which the last one goes.
-fn put_digit(digit: u64, after: u64) -> u64
-    requires { digit ≤ 272 }
-    ensures { IsPutBefore (digit ∷ []) after result }
+/// The digits of a label of nine octets or more, after which no digits of a number are left, by its
+/// first nine, as if octets followed each.
+#[inline(always)]
+fn put_nine(label: &[u8], digits: u64, is_all: bool, after: u64) -> u64
+    requires long { 9 ≤ length label.now }
+    requires all { IsTrue is_all ↔ (length label.now ≡ 9) }
+    requires digits { digits ≡ first_digits 9 (map inner_digit label.now) }
+    ensures { IsPutBefore label.now after result }
 {
-    digit * HIGHEST + after / 273
+    if digits & LOWEST_BITS == 0 {
+        digits - is_all as u64
+    } else {
+        put_octets(label, after)
+    }
+}
+
+/// Puts a label before the digits of a number, octet by octet.
+// Not inlined: hardly any name has an octet that shares its digit.
+#[inline(never)]
+fn put_octets(label: &[u8], after: u64) -> u64
+    ensures { IsPutBefore label.now after result }
+{
+    let (mut key, mut left, mut ended) = (after, label, 1);
+    while let Some((octet, front)) = left.split_last() {
+        let digit = one(*octet);
+        key = if digit % 2 == 0 {
+            (digit - ended) * HIGHEST + key / 128
+        } else {
+            digit * HIGHEST
+        };
+        left = front;
+        ended = 0;
+    }
+    key
+}
+
+/// The digit of an octet that others follow in its label.
+#[inline(always)]
+fn one(octet: u8) -> u64
+    ensures digit { result ≡ inner_digit octet }
+    ensures low { result < 128 }
+{
+    INNER_DIGITS[octet as usize] as u64
+}
+
+/// The digits of two octets.
+#[inline(always)]
+fn two(a: u8, b: u8) -> u64
+    ensures digits { result ≡ inner_digit a * 128 + inner_digit b }
+    ensures low { result < 128 * 128 }
+{
+    one(a) * 128 + one(b)
+}
+
+/// The digits of three octets.
+#[inline(always)]
+fn three(a: u8, b: u8, c: u8) -> u64
+    ensures digits { result ≡ (inner_digit a * 128 + inner_digit b) * 128 + inner_digit c }
+    ensures low { result < 128 * 128 * 128 }
+{
+    (one(a) * 128 + one(b)) * 128 + one(c)
 }

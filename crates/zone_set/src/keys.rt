@@ -3,7 +3,7 @@ ghost use Rattle.std.specs.List.Sorted.{IsPermutation};
 ghost use Rattle.zone_set.specs.Machine.Bulk.{with_hint};
 
 use crate::entry::Entry;
-use crate::hint::{alone_digit, is_within, longer_digit};
+use crate::hint::untold_digits;
 use crate::owner::{first_label, past_far, shared_end};
 use crate::tie::{StoredParts, stored_at, tie_order};
 
@@ -50,10 +50,9 @@ pub(crate) fn first_digit(hint: u64, front: usize, digit: usize) -> usize
     ensures { digit ≤ result }
 {
     // At first hints are no keys.
-    if digit == 0 && is_within(hint) {
-        front
-    } else {
-        digit
+    match untold_digits(hint) {
+        Some(untold) if digit == 0 => front.saturating_sub(untold),
+        _ => digit,
     }
 }
 
@@ -198,7 +197,7 @@ fn put_hexadecimals(labels: &[u8], digit: usize, after: u64) -> (&[u8], u64) {
         let Some(first) = alone_digit(*octet) else {
             break;
         };
-        key = put_digit(without_capitals(first), key);
+        key = put_digit(first, key);
         left = rest;
     }
     (left, key)
@@ -229,7 +228,6 @@ fn put(octets: &[u8], from: usize, after: u64) -> u64 {
 
 /// Puts the digits of a label from one on, and its end, before those of a key. No label has a capital
 /// letter, so that an octet has room for each digit.
-#[tactic(auto, using(crate::proofs::Hints::LabelKey::below_most))]
 fn put_label(label: &[u8], from: usize, after: u64) -> u64 {
     if from > 0 {
         return put_octets(label, from, after >> 8);
@@ -237,26 +235,32 @@ fn put_label(label: &[u8], from: usize, after: u64) -> u64 {
     match label {
         [] => after >> 8,
         [octet] => match alone_digit(*octet) {
-            Some(digit) => put_digit(without_capitals(digit), after),
-            None => put_digit(without_capitals(longer_digit(*octet)), after >> 8),
+            Some(digit) => put_digit(digit, after),
+            None => put_digit(longer_digit(*octet), after >> 8),
         },
-        [octet, ..] => put_digit(
-            without_capitals(longer_digit(*octet)),
-            put_octets(label, 1, after >> 8),
-        ),
+        [octet, ..] => put_digit(longer_digit(*octet), put_octets(label, 1, after >> 8)),
     }
 }
 
-/// The digit of a key for that of a hint of an octet that begins a label: those of the capital letters,
-/// 76 to 101, are left out.
+/// The digit of a label of one octet, if it is hexadecimal.
 #[inline(always)]
-fn without_capitals(digit: u64) -> u8
-    requires { digit < 273 }
-{
-    if digit < 102 {
-        digit as u8
-    } else {
-        (digit - 26) as u8
+fn alone_digit(octet: u8) -> Option<u8> {
+    match octet {
+        b'0'..=b'9' => Some(2 * octet - 47),
+        b'a'..=b'f' => Some(2 * octet - 112),
+        _ => None,
+    }
+}
+
+/// The digit of an octet that begins a label and that others follow.
+fn longer_digit(octet: u8) -> u8 {
+    match octet {
+        0..=b'/' => octet + 1,
+        b'0'..=b'9' => 2 * octet - 46,
+        b':'..=b'Z' => octet + 11,
+        b'['..=b'`' => octet - 15,
+        b'a'..=b'f' => 2 * octet - 111,
+        _ => octet - 9,
     }
 }
 

@@ -167,7 +167,7 @@ impl ZoneList {
     fn drop_repeats(&mut self) -> Result<(), AllocError>
         ensures { Tells self.old self.new }
     {
-        let front = self.base.wire().len().saturating_add(6);
+        let front = self.base.wire().len().saturating_add(8);
         let mut groups = Groups::new(
             self.alloc,
             self.octets.as_slice(),

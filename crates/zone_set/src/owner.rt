@@ -214,8 +214,8 @@ pub(crate) fn past_far(name: &[u8], near: usize) -> &[u8]
     left
 }
 
-/// What follows the first label, or the first eight or four that have an octet each, as those of an
-/// address in ip6.arpa have (RFC 3596 2.5). `None`: fewer octets than said follow.
+/// What follows the first label, or the first of one octet each, at most eight, as those of an address
+/// in ip6.arpa have (RFC 3596 2.5). `None`: fewer octets than said follow.
 fn past_first(name: &[u8], near: usize) -> Option<&[u8]>
     ensures shorter { IfSome result (λ rest. length rest.now < length name.now) }
     ensures far { IfSome result (λ rest. near ≤ length rest.now) }
@@ -226,46 +226,41 @@ fn past_first(name: &[u8], near: usize) -> Option<&[u8]>
     if name.len() <= near {
         return None;
     }
-    if let Some(rest) = past_eight(name, near) {
+    if let Some(rest) = past_few_ones(name, near) {
         return Some(rest);
     }
-    match name {
-        [a, _, b, _, c, _, d, _, rest @ ..]
-            if *a == 1 && *b == 1 && *c == 1 && *d == 1 && rest.len() >= near => { Some(rest) }
-        _ => {
-            let (_, rest) = first_label(name)?;
-            if rest.len() >= near { Some(rest) } else { None }
-        }
-    }
+    let (_, rest) = first_label(name)?;
+    if rest.len() >= near { Some(rest) } else { None }
 }
 
-/// What follows the first labels of one octet each, passed by eight as far as octets follow that
-/// are as many as said.
+/// What follows the first labels of one octet each, as far as octets follow that are as many as
+/// said, and eight are seen to have one.
 #[tactic(auto, using(crate::proofs::Ordering::Owners::after_none, crate::proofs::Ordering::Owners::after_more))]
 fn past_ones(name: &[u8], near: usize) -> &[u8]
     ensures { IsAfterLabels name.now result.now }
 {
     let mut left = name;
-    while let Some(rest) = past_eight(left, near) {
+    while let Some(rest) = past_few_ones(left, near) {
         left = rest;
     }
     left
 }
 
-/// What follows the first eight labels, if each has one octet. `None`: one hasn't, or its octet is
-/// 1, or fewer octets than said follow.
+/// What follows as many of the first eight labels as octets follow them that are as many as said.
+/// `None`: one hasn't one octet, or its octet is 1, or none can be passed.
 #[inline(always)]
-fn past_eight(name: &[u8], near: usize) -> Option<&[u8]>
+fn past_few_ones(name: &[u8], near: usize) -> Option<&[u8]>
     ensures shorter { IfSome result (λ rest. length rest.now < length name.now) }
     ensures far { IfSome result (λ rest. near ≤ length rest.now) }
     ensures end { IfSome result (λ rest.
         (labels : List (List ℕ)) → name.now ≡ wire labels → IsEndOf labels rest.now) }
     ensures after { IfSome result (λ rest. IsAfterLabels name.now rest.now) }
 {
-    if name.len() < 16 || name.len() - 16 < near || !are_ones(name) {
+    let labels = (name.len().saturating_sub(near) / 2).min(8);
+    if labels == 0 || name.len() < 16 || !are_ones(name) {
         return None;
     }
-    Some(&name[16..])
+    Some(&name[2 * labels..])
 }
 
 /// Whether the first 16 octets are eight after 1 each, and none of these is 1.

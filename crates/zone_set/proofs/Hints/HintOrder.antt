@@ -1,11 +1,11 @@
 -- The hint has the order of records as far as it tells them apart.
-use Rattle.zone_set.proofs.Common.{AllByRecursion, AllByRecursion-front, AreDigits, Equal, Greater, IsHint, IsLabel, IsName, IsWithin, Less, List, Ordering, Record, [], after, ap, ap₂, arith, before, canonical_cmp, data_cmp, data_of, eq-eqb, first_digits, if◌then◌else◌, name_cmp, name_cmp-exact, name_cmp-total, nat_cmp, nat_cmp_total, ne_eqb, ordering_reverse, ordering_then, owner_key, refl, soa, subst, sym, then_assoc, tied_itself, within, ℕ, ◌*◌, ◌++◌, ◌<◌, ◌==◌, ◌^◌, ◌∙◌, ◌≡◌, ◌≢◌, ◌⊎◌}
+use Rattle.zone_set.proofs.Common.{AllByRecursion, AllByRecursion-front, Equal, Greater, IsHint, IsLabel, IsName, IsWithin, Less, List, Ordering, Record, [], after, ap, ap₂, arith, before, canonical_cmp, data_cmp, data_of, eq-eqb, first_digits, if◌then◌else◌, name_cmp, name_cmp-exact, name_cmp-total, nat_cmp, nat_cmp_total, ne_eqb, ordering_reverse, ordering_then, owner_key, refl, soa, subst, sym, then_assoc, tied_itself, within, ℕ, ◌+◌, ◌++◌, ◌<◌, ◌==◌, ◌^◌, ◌∙◌, ◌≡◌, ◌≢◌, ◌⊎◌}
 use Rattle.zone_set.proofs.Hints.Digits.{first_digits-bound, first_digits-less}
-use Rattle.zone_set.proofs.Hints.LabelKey.{owner_low, owners_embed}
+use Rattle.zone_set.proofs.Hints.LabelKey.{owner_low, owners_less}
 use Rattle.zone_set.proofs.Ordering.Within.{below_after, same_ending, within_between}
 
 -- an owner that is neither below the base nor before it
-pub hint_after : (base owner : List (List ℕ)) (kind : ℕ) (o : Ordering) → kind ≢ 6 → (IsWithin owner base → ⊥) → name_cmp owner base ≡ o → (o ≡ Equal) ⊎ (o ≡ Greater) → IsHint base owner kind (3 * 2 ^ 57)
+pub hint_after : (base owner : List (List ℕ)) (kind : ℕ) (o : Ordering) → kind ≢ 6 → (IsWithin owner base → ⊥) → name_cmp owner base ≡ o → (o ≡ Equal) ⊎ (o ≡ Greater) → IsHint base owner kind (2 + 2 ^ 63)
 hint_after base owner kind o other out is apart = grind (arith, name_cmp-exact, after, name_cmp-total, ordering_reverse)
 
 less_through : (a b c : List (List ℕ)) → name_cmp a b ≡ Less → name_cmp b c ≢ Greater → name_cmp a c ≡ Less
@@ -18,11 +18,11 @@ rank_same : (k l : ℕ) (o : Ordering) → k ≢ 6 → l ≢ 6 → o ≡ Less �
 rank_same k l o one other less = rw (ne_eqb k 6 one, ne_eqb l 6 other) less
 
 module _ (base : List (List ℕ)) where
-  digits : (x front : List (List ℕ)) → IsName x → x ≡ front ++ base → AreDigits (owner_key front)
-  digits x front name is = owner_low front (AllByRecursion-front IsLabel front base (subst (AllByRecursion IsLabel) is name.each))
+  low : (front : List (List ℕ)) → first_digits 9 (owner_key front) < 128 ^ 9
+  low front = first_digits-bound 9 (owner_key front) (owner_low front)
 
-  low : (x front : List (List ℕ)) → IsName x → x ≡ front ++ base → first_digits 7 (owner_key front) < 273 ^ 7
-  low x front name is = first_digits-bound 7 (owner_key front) (digits x front name is)
+  labels : (x front : List (List ℕ)) → IsName x → x ≡ front ++ base → AllByRecursion IsLabel front
+  labels x front name is = AllByRecursion-front IsLabel front base (subst (AllByRecursion IsLabel) is name.each)
 
   -- what is below the base is before what is after it and not below it
   below_before : (x y front : List (List ℕ)) → x ≡ front ++ base → (IsWithin y base → ⊥) → name_cmp base y ≡ Less → name_cmp x y ≡ Less
@@ -37,13 +37,13 @@ module _ (base : List (List ℕ)) where
   hint_less x y k l h i px py (before e u is) (within g f w at) lt = rank_same k l _ e f (subst (λ z. name_cmp x z ≡ Less) (sym w) (less_through x base (g ++ base) u (below_after base g)))
   hint_less x y k l h i px py (before e u is) (after f w v at) lt = rank_same k l _ e f (name_cmp-total.trans x base y u v)
   hint_less x y k l h i px py (within g e u is) (within j f w at) lt =
-      let keys = first_digits-less 7 (owner_key g) (owner_key j) (digits x g px u) (digits y j py w) (omega (arith, is, at, lt)) in
-      rank_same k l _ e f (ap₂ name_cmp u w ∙ same_ending base g j ∙ sym (owners_embed g j) ∙ keys)
+      let keys = first_digits-less 9 (owner_key g) (owner_key j) (owner_low g) (owner_low j) (omega (arith, is, at, lt)) in
+      rank_same k l _ e f (ap₂ name_cmp u w ∙ same_ending base g j ∙ owners_less g j (labels x g px u) (labels y j py w) keys)
   hint_less x y k l h i px py (within g e u is) (after f w v at) lt = rank_same k l _ e f (below_before x y g u w v)
   hint_less x y k l h i px py (before e u is) (before f w at) lt = absurd (omega (arith, is, at, lt))
   hint_less x y k l h i px py (within g e u is) (before f w at) lt = absurd (omega (arith, is, at, lt))
   hint_less x y k l h i px py (after e u v is) (before f w at) lt = absurd (omega (arith, is, at, lt))
-  hint_less x y k l h i px py (after e u v is) (within g f w at) lt = absurd (omega (arith, is, at, lt, low y g py w))
+  hint_less x y k l h i px py (after e u v is) (within g f w at) lt = absurd (omega (arith, is, at, lt, low g))
   hint_less x y k l h i px py (after e u v is) (after f w z at) lt = absurd (omega (arith, is, at, lt))
 
   -- an owner and a type have one hint

@@ -1,12 +1,15 @@
 -- A walk over the labels of an owner, until those that are left take no more octets than the base.
-use Rattle.zone_set.proofs.Common.{map, append-nil, slice_index_or, suc, zero, AllByRecursion, AllByRecursion-back, AllByRecursion-front, AreDigits, IsLabel, IsName, IsFirst, IsPutBefore, IsWithin, List, [], ap, append_assoc, arith, common_steps, first_digits, inl, inr, label_key, labels_of-wire, length, owner_key, refl, subst, sym, wire, ℕ, ⊎_elim, ◌*◌, ◌++◌, ◌+◌, ◌<◌, ◌^◌, ◌∙◌, ◌∷◌, ◌≡◌, ◌≤◌, ◌⊎◌}
+use Rattle.zone_set.proofs.Common.{map, append-nil, slice_index_or, suc, zero, AllByRecursion, AllByRecursion-back, AllByRecursion-front, IsLabel, IsName, IsFirst, IsPutBefore, IsWithin, List, [], ap, append_assoc, arith, common_steps, first_digits, inl, inr, labels_of-wire, reverse, reverse-append, length, owner_key, refl, subst, sym, wire, ℕ, ⊎_elim, ◌*◌, ◌++◌, ◌+◌, ◌-◌, ◌<◌, ◌^◌, ◌∙◌, ◌∷◌, ◌≡◌, ◌≤◌, ◌⊎◌}
 use lib.ListN.{length-append}
 use Rattle.zone_name.specs.Common.{each_after}
 use Rattle.zone_set.proofs.Ordering.Owners.{first_of_wire, one_octet}
 use Rattle.zone_set.specs.Machine.Hint.{GathersOnes}
 use Rattle.zone_set.specs.Machine.Owner.{IsEndOf}
-use Rattle.zone_set.proofs.Hints.Digits.{first_digits-bound, first_digits-enough}
-use Rattle.zone_set.proofs.Hints.LabelKey.{label_digits, owner_low, owner_key-append, owner_key-front, owner_key-push}
+use Rattle.zone_set.proofs.Hints.Digits.{first_digits-bound}
+use Rattle.zone_set.proofs.Hints.LabelKey.{labels_key-append, labels_reverse, octets_enough, owner_low, owner_key-push}
+use Rattle.zone_set.proofs.Hints.Own.{lowest_bits, nine_ones}
+use Rattle.zone_set.specs.Machine.LabelKey.{inner_digit, labels_key}
+use Rattle.std.specs.Prelude.{bit_and}
 
 length-wire : (label : List ℕ) (labels : List (List ℕ)) → length (wire (label ∷ labels)) ≡ length label + 1 + length (wire labels)
 length-wire label labels = grind (arith, common_steps)
@@ -25,11 +28,18 @@ none_before left [] base is fits = is
 none_before left (label ∷ before) base is fits =
     absurd (omega (arith, fits, ap (λ ls. length (wire ls)) is, length-wire_append (label ∷ before) base, length-wire label before, wire_some before))
 
--- a digit takes up two octets of an owner at most
-owner_digits : (owner : List (List ℕ)) → length (wire owner) ≤ 2 * length (owner_key owner) + 1
-owner_digits [] = omega arith
-owner_digits (label ∷ owner) =
-    omega (arith, length-wire label owner, owner_digits owner, label_digits label, ap length (owner_key-front label owner), length-append (owner_key owner) (label_key label))
+wire_reverse : (labels : List (List ℕ)) → length (wire (reverse labels)) ≡ length (wire labels)
+wire_reverse [] = refl
+wire_reverse (label ∷ labels) =
+    omega (arith, ap (λ ls. length (wire ls)) (reverse-append (label ∷ []) labels), length-wire_append (reverse labels) (label ∷ []), length-wire label [], length-wire label labels, wire_reverse labels)
+
+-- labels that take twice as many octets or more have as many digits, if none is cut off
+labels_enough : (n : ℕ) (labels : List (List ℕ)) (x y : List ℕ) → AllByRecursion IsLabel labels → 2 * n + 1 ≤ length (wire labels) → first_digits n (labels_key labels x) ≡ first_digits n (labels_key labels y)
+labels_enough zero [] x y each long = refl
+labels_enough (suc n) [] x y each long = absurd (omega (arith, long))
+labels_enough n (label ∷ labels) x y each long =
+    octets_enough n label (labels_key labels x) (labels_key labels y)
+    (λ m is. labels_enough m labels x y each.1 (omega (arith, is, long, each.0.some, length-wire label labels)))
 
 -- the labels whose octets are left; those that were passed over, where enough digits follow, and the
 -- number of those that were gathered since
@@ -39,8 +49,8 @@ pub record IsWalked (base owner : List (List ℕ)) (octets : List ℕ) (key : �
   pub left : List (List ℕ)
   pub parts : owner ≡ passed ++ (gathered ++ left)
   pub is : octets ≡ wire left
-  pub gathers : key ≡ first_digits 7 (owner_key gathered)
-  pub enough : (passed ≡ []) ⊎ (length (wire base) + 14 ≤ length (wire (gathered ++ left)))
+  pub gathers : key ≡ first_digits 9 (owner_key gathered)
+  pub enough : (passed ≡ []) ⊎ (length (wire base) + 18 ≤ length (wire (gathered ++ left)))
   pub within : IsWithin owner base → IsWithin left base
 
 -- labels that take as many octets as the base, or more, end with the base's if all do
@@ -50,7 +60,7 @@ within_past base left (label ∷ front) [] fits same =
     absurd (omega (arith, fits, ap (λ ls. length (wire ls)) same, length-wire_append (label ∷ front) left, length-wire label front, wire_some front))
 within_past base left (label ∷ front) (x ∷ before) fits same = within_past base left front before fits (cc same)
 
-pub walked_start : (base owner : List (List ℕ)) (octets : List ℕ) → IsEndOf owner octets → (octets ≡ wire owner) ⊎ (length (wire base) + 14 ≤ length octets) → IsWalked base owner octets 0
+pub walked_start : (base owner : List (List ℕ)) (octets : List ℕ) → IsEndOf owner octets → (octets ≡ wire owner) ⊎ (length (wire base) + 18 ≤ length octets) → IsWalked base owner octets 0
 walked_start base owner octets end (inl whole) = record {
   passed = [];
   gathered = [];
@@ -74,7 +84,7 @@ walked_start base owner octets end (inr far) =
       within = λ w. within_past base end.last end.front w.0 (omega (arith, far, takes)) (sym end.parts ∙ w.1);
     }
 
-start_none : (base owner : List (List ℕ)) (octets : List ℕ) (end : IsEndOf owner octets) (far : (octets ≡ wire owner) ⊎ (length (wire base) + 14 ≤ length octets))
+start_none : (base owner : List (List ℕ)) (octets : List ℕ) (end : IsEndOf owner octets) (far : (octets ≡ wire owner) ⊎ (length (wire base) + 18 ≤ length octets))
     → (walked_start base owner octets end far).gathered ≡ []
 unfolding walked_start
 start_none base owner octets end (inl whole) = refl
@@ -89,11 +99,8 @@ module _ (base owner : List (List ℕ)) (octets : List ℕ) (key : ℕ) (walked 
   gathered_each : AllByRecursion IsLabel (walked.gathered ++ walked.left)
   gathered_each = AllByRecursion-back IsLabel walked.passed (walked.gathered ++ walked.left) (subst (AllByRecursion IsLabel) walked.parts name.each)
 
-  gathered_low : AreDigits (owner_key walked.gathered)
-  gathered_low = owner_low walked.gathered (AllByRecursion-front IsLabel walked.gathered walked.left gathered_each)
-
   -- one more label is gathered
-  walked_on : (label rest : List ℕ) (next : ℕ) → length (wire base) < length octets → IsFirst octets label rest → next ≡ first_digits 7 (owner_key (walked.gathered ++ label ∷ []))
+  walked_on : (label rest : List ℕ) (next : ℕ) → length (wire base) < length octets → IsFirst octets label rest → next ≡ first_digits 9 (owner_key (walked.gathered ++ label ∷ []))
       → IsWalked base owner rest next
   walked_on label rest next more first gathers =
       let cut = first_of_wire octets label rest walked.left walked.is first in
@@ -105,13 +112,13 @@ module _ (base owner : List (List ℕ)) (octets : List ℕ) (key : ℕ) (walked 
         parts = walked.parts ∙ ap (λ ls. walked.passed ++ ls) same;
         is = cut.2;
         gathers = gathers;
-        enough = subst (λ ls. (walked.passed ≡ []) ⊎ (length (wire base) + 14 ≤ length (wire ls))) same walked.enough;
+        enough = subst (λ ls. (walked.passed ≡ []) ⊎ (length (wire base) + 18 ≤ length (wire ls))) same walked.enough;
         within = λ w. let before = walked.within w in within_rest base cut.0 before.0 label (omega (arith, more, ap length walked.is, ap (λ ls. length (wire ls)) cut.1)) (sym cut.1 ∙ before.1);
       }
 
-  pub walked_next : (label rest : List ℕ) (next : ℕ) → length (wire base) < length octets → IsFirst octets label rest → IsPutBefore (label_key label) key next → IsWalked base owner rest next
+  pub walked_next : (label rest : List ℕ) (next : ℕ) → length (wire base) < length octets → IsFirst octets label rest → IsPutBefore label key next → IsWalked base owner rest next
   walked_next label rest next more first put =
-      walked_on label rest next more first (put (owner_key walked.gathered) gathered_low walked.gathers ∙ ap (first_digits 7) (sym (owner_key-push walked.gathered label)))
+      walked_on label rest next more first (put (owner_key walked.gathered) (owner_low walked.gathered) walked.gathers ∙ ap (first_digits 9) (sym (owner_key-push walked.gathered label)))
 
   -- there is one more, as long as more octets are left than the base has
   pub walked_some : length (wire base) < length octets → ((label : List ℕ) (labels : List (List ℕ)) → 0 < length label → octets ≡ wire (label ∷ labels) → ⊥) → ⊥
@@ -121,23 +128,26 @@ module _ (base owner : List (List ℕ)) (octets : List ℕ) (key : ℕ) (walked 
       by [] is each = omega (arith, more, ap length is, wire_some base)
       by (label ∷ labels) is each = none label labels each.0.some is
 
-  -- the number takes seven digits
-  pub walked_short : key < 2 ^ 57
-  walked_short = let most = first_digits-bound 7 (owner_key walked.gathered) gathered_low in omega (arith, most, walked.gathers)
+  -- the number takes nine digits
+  pub walked_short : key < 2 ^ 63
+  walked_short = let most = first_digits-bound 9 (owner_key walked.gathered) (owner_low walked.gathered) in omega (arith, most, walked.gathers)
 
   -- the first digits are those of all labels before the base
-  gathers_all : walked.left ≡ base → key ≡ first_digits 7 (owner_key (walked.passed ++ walked.gathered))
+  gathers_all : walked.left ≡ base → key ≡ first_digits 9 (owner_key (walked.passed ++ walked.gathered))
   gathers_all ends = walked.gathers ∙ ⊎_elim all front walked.enough
     where
-      all : walked.passed ≡ [] → first_digits 7 (owner_key walked.gathered) ≡ first_digits 7 (owner_key (walked.passed ++ walked.gathered))
-      all none = ap (λ ls. first_digits 7 (owner_key (ls ++ walked.gathered))) (sym none)
+      all : walked.passed ≡ [] → first_digits 9 (owner_key walked.gathered) ≡ first_digits 9 (owner_key (walked.passed ++ walked.gathered))
+      all none = ap (λ ls. first_digits 9 (owner_key (ls ++ walked.gathered))) (sym none)
 
-      front : length (wire base) + 14 ≤ length (wire (walked.gathered ++ walked.left)) → first_digits 7 (owner_key walked.gathered) ≡ first_digits 7 (owner_key (walked.passed ++ walked.gathered))
+      front : length (wire base) + 18 ≤ length (wire (walked.gathered ++ walked.left)) → first_digits 9 (owner_key walked.gathered) ≡ first_digits 9 (owner_key (walked.passed ++ walked.gathered))
       front far =
-          let long : 7 ≤ length (owner_key walked.gathered) = omega (arith, far, length-wire_append walked.gathered walked.left, ap (λ ls. length (wire ls)) ends, owner_digits walked.gathered) in
-          sym (first_digits-enough 7 (owner_key walked.gathered) (owner_key walked.passed) long) ∙ ap (first_digits 7) (sym (owner_key-append walked.passed walked.gathered))
+          let gathered = walked.gathered in
+          let each = labels_reverse gathered (AllByRecursion-front IsLabel gathered walked.left gathered_each) in
+          let long : 2 * 9 + 1 ≤ length (wire (reverse gathered)) = omega (arith, far, length-wire_append gathered walked.left, ap (λ ls. length (wire ls)) ends, wire_reverse gathered) in
+          let more : owner_key (walked.passed ++ gathered) ≡ labels_key (reverse gathered) (owner_key walked.passed) = ap (λ ls. labels_key ls []) (reverse-append walked.passed gathered) ∙ labels_key-append (reverse gathered) (reverse walked.passed) [] in
+          labels_enough 9 (reverse gathered) [] (owner_key walked.passed) each long ∙ ap (first_digits 9) (sym more)
 
-  pub walked_found : IsName base → octets ≡ wire base → (front : List (List ℕ)) × (owner ≡ front ++ base) × (key ≡ first_digits 7 (owner_key front))
+  pub walked_found : IsName base → octets ≡ wire base → (front : List (List ℕ)) × (owner ≡ front ++ base) × (key ≡ first_digits 9 (owner_key front))
   walked_found base_name same =
       let ends : walked.left ≡ base = grind (arith, AllByRecursion-back, labels_of-wire, walked.is) in
       (walked.passed ++ walked.gathered, walked.parts ∙ ap (λ ls. walked.passed ++ (walked.gathered ++ ls)) ends ∙ sym (append_assoc walked.passed walked.gathered base), gathers_all ends)
@@ -158,31 +168,22 @@ all_firsts : (octets : List ℕ) → octets ≡ firsts (length octets) (λ k. sl
 all_firsts [] = refl
 all_firsts (c ∷ octets) = ap (λ t. c ∷ t) (all_firsts octets)
 
-module _ (octets : List ℕ) (long : length octets ≡ 14) where
+module _ (octets : List ℕ) (long : length octets ≡ 18) where
   abbrev nth : ℕ → ℕ
   nth k = slice_index_or octets k 0
 
-  abbrev seven : List ℕ
-  seven = nth 1 ∷ (nth 3 ∷ (nth 5 ∷ (nth 7 ∷ (nth 9 ∷ (nth 11 ∷ (nth 13 ∷ []))))))
+  abbrev nine : List ℕ
+  nine = nth 1 ∷ (nth 3 ∷ (nth 5 ∷ (nth 7 ∷ (nth 9 ∷ (nth 11 ∷ (nth 13 ∷ (nth 15 ∷ (nth 17 ∷ []))))))))
 
-  abbrev number_of : ℕ → ℕ → ℕ → ℕ → ℕ → ℕ → ℕ → ℕ
-  number_of d0 d1 d2 d3 d4 d5 d6 = (((((d6 * 273 + d5) * 273 + d4) * 273 + d3) * 273 + d2) * 273 + d1) * 273 + d0
-
-  number_is : (d0 d1 d2 d3 d4 d5 d6 : ℕ) → number_of d0 d1 d2 d3 d4 d5 d6 ≡ first_digits 7 (d6 ∷ (d5 ∷ (d4 ∷ (d3 ∷ (d2 ∷ (d1 ∷ (d0 ∷ [])))))))
-  number_is d0 d1 d2 d3 d4 d5 d6 = omega arith
-
-  pub seven_gathered : (d0 d1 d2 d3 d4 d5 d6 : ℕ) → nth 0 ≡ 1 → nth 2 ≡ 1 → nth 4 ≡ 1 → nth 6 ≡ 1 → nth 8 ≡ 1 → nth 10 ≡ 1 → nth 12 ≡ 1
-      → label_key (nth 1 ∷ []) ≡ d0 ∷ [] → label_key (nth 3 ∷ []) ≡ d1 ∷ [] → label_key (nth 5 ∷ []) ≡ d2 ∷ [] → label_key (nth 7 ∷ []) ≡ d3 ∷ []
-      → label_key (nth 9 ∷ []) ≡ d4 ∷ [] → label_key (nth 11 ∷ []) ≡ d5 ∷ [] → label_key (nth 13 ∷ []) ≡ d6 ∷ []
-      → GathersOnes octets 0 (number_of d0 d1 d2 d3 d4 d5 d6) []
-  seven_gathered d0 d1 d2 d3 d4 d5 d6 n0 n1 n2 n3 n4 n5 n6 k0 k1 k2 k3 k4 k5 k6 =
-      let whole : octets ≡ firsts 14 nth = subst (λ n. octets ≡ firsts n nth) long (all_firsts octets) in
-      let keys : owner_key (map (λ c. c ∷ []) seven) ≡ d6 ∷ (d5 ∷ (d4 ∷ (d3 ∷ (d2 ∷ (d1 ∷ (d0 ∷ [])))))) =
-      (λ i. k6 i ++ (k5 i ++ (k4 i ++ (k3 i ++ (k2 i ++ (k1 i ++ (k0 i ++ []))))))) in
+  pub nine_gathered : (d : ℕ) → nth 0 ≡ 1 → nth 2 ≡ 1 → nth 4 ≡ 1 → nth 6 ≡ 1 → nth 8 ≡ 1 → nth 10 ≡ 1 → nth 12 ≡ 1 → nth 14 ≡ 1 → nth 16 ≡ 1
+      → d ≡ first_digits 9 (map inner_digit (reverse nine)) → bit_and d lowest_bits ≡ 0
+      → GathersOnes octets 0 (d - lowest_bits) []
+  nine_gathered d n0 n1 n2 n3 n4 n5 n6 n7 n8 is none =
+      let whole : octets ≡ firsts 18 nth = subst (λ n. octets ≡ firsts n nth) long (all_firsts octets) in
       record {
-        others = seven;
-        begins = whole ∙ (λ i. n0 i ∷ (nth 1 ∷ (n1 i ∷ (nth 3 ∷ (n2 i ∷ (nth 5 ∷ (n3 i ∷ (nth 7 ∷ (n4 i ∷ (nth 9 ∷ (n5 i ∷ (nth 11 ∷ (n6 i ∷ (nth 13 ∷ []))))))))))))));
-        digits = number_is d0 d1 d2 d3 d4 d5 d6 ∙ ap (first_digits 7) (sym keys);
+        others = nine;
+        begins = whole ∙ (λ i. n0 i ∷ (nth 1 ∷ (n1 i ∷ (nth 3 ∷ (n2 i ∷ (nth 5 ∷ (n3 i ∷ (nth 7 ∷ (n4 i ∷ (nth 9 ∷ (n5 i ∷ (nth 11 ∷ (n6 i ∷ (nth 13 ∷ (n7 i ∷ (nth 15 ∷ (n8 i ∷ (nth 17 ∷ []))))))))))))))))));
+        digits = nine_ones (reverse nine) d refl is none;
         far = λ some. omega arith;
       }
 
@@ -200,24 +201,24 @@ none_gathered octets near = record { others = []; begins = refl; digits = refl; 
 
 -- as many of one octet each are gathered
 walked_ones : (base owner : List (List ℕ)) (octets : List ℕ) (key : ℕ) (walked : IsWalked base owner octets key) → IsName owner → (others rest : List ℕ) (next : ℕ)
-    → octets ≡ each_after 1 others ++ rest → (0 < length others → length (wire base) ≤ length rest) → next ≡ first_digits 7 (owner_key (walked.gathered ++ map (λ c. c ∷ []) others))
+    → octets ≡ each_after 1 others ++ rest → (0 < length others → length (wire base) ≤ length rest) → next ≡ first_digits 9 (owner_key (walked.gathered ++ map (λ c. c ∷ []) others))
     → IsWalked base owner rest next
 unfolding walked_on
 walked_ones base owner octets key walked name [] rest next begins far digits =
-    let same : next ≡ key = digits ∙ ap (λ ls. first_digits 7 (owner_key ls)) (append-nil walked.gathered) ∙ sym walked.gathers in
+    let same : next ≡ key = digits ∙ ap (λ ls. first_digits 9 (owner_key ls)) (append-nil walked.gathered) ∙ sym walked.gathers in
     rw (sym begins, same) walked
 walked_ones base owner octets key walked name (c ∷ others) rest next begins far digits =
     let after = each_after 1 others ++ rest in
     let enough : length (wire base) ≤ length rest = far (omega arith) in
     let long : length octets ≡ suc (suc (length after)) = ap length begins in
     let first : IsFirst octets (c ∷ []) after = subst (λ o. IsFirst o (c ∷ []) after) (sym begins) (one_octet 1 c after refl) in
-    let number = first_digits 7 (owner_key (walked.gathered ++ (c ∷ []) ∷ [])) in
+    let number = first_digits 9 (owner_key (walked.gathered ++ (c ∷ []) ∷ [])) in
     let step = walked_on base owner octets key walked name (c ∷ []) after number (omega (arith, long, enough, length-append (each_after 1 others) rest)) first refl in
     walked_ones base owner after number step name others rest next refl (λ some. enough)
-    (digits ∙ ap (λ ls. first_digits 7 (owner_key ls)) (sym (append_assoc walked.gathered ((c ∷ []) ∷ []) (map (λ x. x ∷ []) others))))
+    (digits ∙ ap (λ ls. first_digits 9 (owner_key ls)) (sym (append_assoc walked.gathered ((c ∷ []) ∷ []) (map (λ x. x ∷ []) others))))
 
-pub walked_gathered : (base owner : List (List ℕ)) (octets rest : List ℕ) (near next : ℕ) → IsEndOf owner octets → (octets ≡ wire owner) ⊎ (length (wire base) + 14 ≤ length octets)
+pub walked_gathered : (base owner : List (List ℕ)) (octets rest : List ℕ) (near next : ℕ) → IsEndOf owner octets → (octets ≡ wire owner) ⊎ (length (wire base) + 18 ≤ length octets)
     → IsName owner → near ≡ length (wire base) → GathersOnes octets near next rest → IsWalked base owner rest next
 walked_gathered base owner octets rest near next end far name is ones =
     walked_ones base owner octets 0 (walked_start base owner octets end far) name ones.others rest next ones.begins (λ some. omega (arith, is, ones.far some))
-    (ones.digits ∙ ap (λ ls. first_digits 7 (owner_key (ls ++ map (λ c. c ∷ []) ones.others))) (sym (start_none base owner octets end far)))
+    (ones.digits ∙ ap (λ ls. first_digits 9 (owner_key (ls ++ map (λ c. c ∷ []) ones.others))) (sym (start_none base owner octets end far)))

@@ -1,5 +1,5 @@
 -- Owners whose first labels tell how they lie.
-use Rattle.zone_set.proofs.Common.{append_assoc, drop, flat_map, length, refl, take, wire, ◌≤◌, arith, AreFirst, Equal, Greater, IsFirst, Less, List, [], ap, ap₂, map, label_cmp, name_cmp, name_cmp-total, nat_cmp, nil_from_length, ordering_reverse, Ordering, ordering_then, reverse, reverse-append, slice_cmp, slice_index_or, subst, sym, take-append-drop, then_equal, ℕ, ◌∙◌, ◌∷◌, ◌++◌, ◌≡◌, ◌≢◌}
+use Rattle.zone_set.proofs.Common.{append_assoc, drop, flat_map, length, length-take-le, refl, suc, take, wire, zero, ◌*◌, ◌≤◌, arith, AreFirst, Equal, Greater, IsFirst, Less, List, [], ap, ap₂, map, label_cmp, name_cmp, name_cmp-total, nat_cmp, nil_from_length, ordering_reverse, Ordering, ordering_then, reverse, reverse-append, slice_cmp, subst, sym, take-append-drop, then_equal, ℕ, ◌∙◌, ◌∷◌, ◌++◌, ◌≡◌, ◌≢◌}
 use Rattle.zone_name.proofs.InOctets.Octets.{labels_of-cons, labels_of-open}
 pub use Rattle.zone_name.proofs.InOctets.Octets.{root_label}
 use Rattle.std.proofs.Math.Seq.{drop-append_seam, take-append_seam}
@@ -118,16 +118,36 @@ after_ones (c ∷ others) rest =
     let after = each_after 1 others ++ rest in
     labels_of-first (1 ∷ (c ∷ after)) (c ∷ []) after (one_octet 1 c after refl) ∙ ap (λ ls. (c ∷ []) ∷ ls) (after_ones others rest)
 
--- eight of these
-module _ (octets : List ℕ) (ones : (others : List ℕ) × (take 16 octets ≡ each_after 1 others)) where
+length_ones : (others : List ℕ) → length (each_after 1 others) ≡ 2 * length others
+length_ones [] = refl
+length_ones (c ∷ others) = let same : length (each_after 1 (c ∷ others)) ≡ suc (suc (length (each_after 1 others))) = refl in omega (arith, same, length_ones others)
+
+-- fewer of these
+fewer_ones : (k : ℕ) (others octets rest : List ℕ) → k ≤ length others → octets ≡ each_after 1 others ++ rest → (few : List ℕ) × (octets ≡ each_after 1 few ++ drop (2 * k) octets)
+fewer_ones zero others octets rest within begins = ([], refl)
+fewer_ones (suc k) [] octets rest within begins = absurd (omega (arith, within))
+fewer_ones (suc k) (c ∷ others) octets rest within begins =
+    let after = each_after 1 others ++ rest in
+    let less = fewer_ones k others after rest (omega (arith, within)) refl in
+    let two : 2 * suc k ≡ suc (suc (2 * k)) = omega arith in
+    let same : drop (2 * suc k) octets ≡ drop (2 * k) after = ap₂ drop two begins in
+    (c ∷ less.0, begins ∙ ap (λ t. 1 ∷ (c ∷ t)) (less.1 ∙ ap (λ t. each_after 1 less.0 ++ t) (sym same)))
+
+-- of the first eight
+module _ (octets : List ℕ) (ones : (others : List ℕ) × (take 16 octets ≡ each_after 1 others)) (k : ℕ) (few : k ≤ 8) (long : 16 ≤ length octets) where
   begins_ones : octets ≡ each_after 1 ones.0 ++ drop 16 octets
   begins_ones = sym (take-append-drop 16 octets) ∙ ap (λ t. t ++ drop 16 octets) ones.1
 
-  pub end_eight : (labels : List (List ℕ)) → octets ≡ wire labels → IsEndOf labels (drop 16 octets)
-  end_eight = end_ones ones.0 octets (drop 16 octets) begins_ones
+  cut_ones : (others : List ℕ) × (octets ≡ each_after 1 others ++ drop (2 * k) octets)
+  cut_ones =
+      let eight : 16 ≡ 2 * length ones.0 = sym (length-take-le 16 octets long) ∙ ap length ones.1 ∙ length_ones ones.0 in
+      fewer_ones k ones.0 octets (drop 16 octets) (omega (arith, few, eight)) begins_ones
 
-  pub after_eight : IsAfterLabels octets (drop 16 octets)
-  after_eight = record { front = map (λ c. c ∷ []) ones.0; parts = ap labels_of begins_ones ∙ after_ones ones.0 (drop 16 octets) }
+  pub end_few : (labels : List (List ℕ)) → octets ≡ wire labels → IsEndOf labels (drop (2 * k) octets)
+  end_few = end_ones cut_ones.0 octets (drop (2 * k) octets) cut_ones.1
+
+  pub after_few : IsAfterLabels octets (drop (2 * k) octets)
+  after_few = record { front = map (λ c. c ∷ []) cut_ones.0; parts = ap labels_of cut_ones.1 ∙ after_ones cut_ones.0 (drop (2 * k) octets) }
 
 -- labels after those that come first
 pub after_none : (name : List ℕ) → IsAfterLabels name name
@@ -138,23 +158,3 @@ after_more name left rest first next = record {
   front = first.front ++ next.front;
   parts = first.parts ∙ ap (λ ls. first.front ++ ls) next.parts ∙ sym (append_assoc first.front next.front (labels_of rest));
 }
-
--- and with those after four of one octet each
-pub end_four : (octets : List ℕ) → 8 ≤ length octets → slice_index_or octets 0 0 ≡ 1 → slice_index_or octets 2 0 ≡ 1 → slice_index_or octets 4 0 ≡ 1 → slice_index_or octets 6 0 ≡ 1
-    → (labels : List (List ℕ)) → octets ≡ wire labels → IsEndOf labels (drop 8 octets)
-end_four [] long p q r s labels is = absurd (omega (arith, long))
-end_four (_ ∷ []) long p q r s labels is = absurd (omega (arith, long))
-end_four (_ ∷ (_ ∷ [])) long p q r s labels is = absurd (omega (arith, long))
-end_four (_ ∷ (_ ∷ (_ ∷ []))) long p q r s labels is = absurd (omega (arith, long))
-end_four (_ ∷ (_ ∷ (_ ∷ (_ ∷ [])))) long p q r s labels is = absurd (omega (arith, long))
-end_four (_ ∷ (_ ∷ (_ ∷ (_ ∷ (_ ∷ []))))) long p q r s labels is = absurd (omega (arith, long))
-end_four (_ ∷ (_ ∷ (_ ∷ (_ ∷ (_ ∷ (_ ∷ [])))))) long p q r s labels is = absurd (omega (arith, long))
-end_four (_ ∷ (_ ∷ (_ ∷ (_ ∷ (_ ∷ (_ ∷ (_ ∷ []))))))) long p q r s labels is = absurd (omega (arith, long))
-end_four (w ∷ (a ∷ (x ∷ (b ∷ (y ∷ (c ∷ (z ∷ (d ∷ rest)))))))) long p q r s labels is =
-    let fourth = z ∷ (d ∷ rest) in
-    let third = y ∷ (c ∷ fourth) in
-    let second = x ∷ (b ∷ third) in
-    let one : IsEndOf labels second = end_first (w ∷ (a ∷ second)) (a ∷ []) second (one_octet w a second p) labels is in
-    let two : IsEndOf labels third = end_more labels second third one (end_first second (b ∷ []) third (one_octet x b third q)) in
-    let three : IsEndOf labels fourth = end_more labels third fourth two (end_first third (c ∷ []) fourth (one_octet y c fourth r)) in
-    end_more labels fourth rest three (end_first fourth (d ∷ []) rest (one_octet z d rest s))

@@ -1,30 +1,33 @@
--- The key of labels: digits whose plain order is the order of the labels (RFC 4034 6.1). A label of
--- one hexadecimal digit, as each of an address in ip6.arpa (RFC 3596 2.5), is one digit of the key.
-use Rattle.std.specs.Prelude.{ℕ, ◌+◌, ◌-◌, ◌==◌, min, if◌then◌else◌, List, [], ◌∷◌, ◌++◌, map, reverse}
-use Rattle.std.specs.List.{flat_map}
+-- The key of labels: digits whose plain order is never against that of the labels (RFC 4034 6.1),
+-- one for each octet.
+use Rattle.std.specs.Prelude.{ℕ, ◌+◌, ◌*◌, ◌-◌, ◌==◌, min, if◌then◌else◌, List, [], ◌∷◌, reverse}
 
--- how many of the hexadecimal digits, 48 to 57 and 97 to 102, are less than an octet
-abbrev pub hexadecimals_below : ℕ → ℕ
-hexadecimals_below c = min (c - 48) 10 + min (c - 97) 6
+-- How many octets less than this one have digits of their own. They are those from ! to @, among
+-- them the digits and the hyphen, and those from _ to z, among them the letters.
+abbrev pub own_below : ℕ → ℕ
+own_below c = min (c - 33) 32 + min (c - 95) 28
 
--- the digit of an octet that begins a label, and of a hexadecimal one that is its label
-abbrev pub first_digit : ℕ → ℕ
-first_digit c = c + 1 + hexadecimals_below c
+-- the digit of the last octet of a label
+abbrev pub last_digit : ℕ → ℕ
+last_digit c = 2 * own_below c + 1
 
--- and of one that others follow: where it is hexadecimal one more, else the same
-abbrev pub longer_digit : ℕ → ℕ
-longer_digit c = c + 1 + hexadecimals_below (c + 1)
+-- and of one that others follow: one more, but for those octets that share a digit
+abbrev pub inner_digit : ℕ → ℕ
+inner_digit c = own_below c + own_below (c + 1) + 1
 
--- octets and the end of their label; an octet counts one more, so that the end is less
-abbrev pub octets_key : List ℕ → List ℕ
-octets_key octets = map (λ c. c + 1) octets ++ 0 ∷ []
+abbrev pub octet_digit : ℕ → List ℕ → ℕ
+octet_digit c [] = last_digit c
+octet_digit c (d ∷ octets) = inner_digit c
 
--- a label and its end, which a label of one hexadecimal digit has in its only digit
-abbrev pub label_key : List ℕ → List ℕ
-label_key [] = 0 ∷ []
-label_key (c ∷ []) = first_digit c ∷ (if hexadecimals_below c == hexadecimals_below (c + 1) then 0 ∷ [] else [])
-label_key (c ∷ (d ∷ octets)) = longer_digit c ∷ octets_key (d ∷ octets)
+-- a label before the digits of those to its left; after a digit that octets share none counts
+abbrev pub octets_key : List ℕ → List ℕ → List ℕ
+octets_key [] after = after
+octets_key (c ∷ octets) after = octet_digit c octets ∷ (if own_below c == own_below (c + 1) then [] else octets_key octets after)
+
+abbrev pub labels_key : List (List ℕ) → List ℕ → List ℕ
+labels_key [] after = after
+labels_key (label ∷ labels) after = octets_key label (labels_key labels after)
 
 -- the labels of an owner from the right
 abbrev pub owner_key : List (List ℕ) → List ℕ
-owner_key owner = flat_map label_key (reverse owner)
+owner_key owner = labels_key (reverse owner) []

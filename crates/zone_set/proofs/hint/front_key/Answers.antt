@@ -4,8 +4,8 @@ use Rattle.zone_set.proofs.hint.front_key.Goals as goal
 
 pub loop-left-init : goal.loop-left-init
 loop-left-init c =
-    walked_gathered c.args.base.now c.args.owner.now c.past_far-near.result.now c.gather_seven-key.result.1.now _ c.gather_seven-key.result.0 (c.past_far-near.ensures.end c.args.owner.now c.wire.ensures.octets)
-    (⊎_elim (λ same. inl (same ∙ c.wire.ensures.octets)) (λ far. inr (omega (arith, far, ap length c.wire-ending.ensures.octets))) c.past_far-near.ensures.far) c.wire.ensures.name (ap length c.wire-ending.ensures.octets) c.gather_seven-key.ensures
+    walked_gathered c.args.base.now c.args.owner.now c.past_far-near.result.now c.gather_nine-key.result.1.now _ c.gather_nine-key.result.0 (c.past_far-near.ensures.end c.args.owner.now c.wire.ensures.octets)
+    (⊎_elim (λ same. inl (same ∙ c.wire.ensures.octets)) (λ far. inr (omega (arith, far, ap length c.wire-ending.ensures.octets))) c.past_far-near.ensures.far) c.wire.ensures.name (ap length c.wire-ending.ensures.octets) c.gather_nine-key.ensures
 
 pub returns-in_err-label-clause-none : goal.returns-in_err-label-clause-none
 returns-in_err-label-clause-none c =

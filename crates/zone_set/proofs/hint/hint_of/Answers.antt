@@ -1,4 +1,4 @@
-use Rattle.zone_set.proofs.Common.{◌≡◌, ◌≢◌, ◌+◌, ◌*◌, ◌^◌, refl, sym, ap, ◌∙◌, false≢true, name_cmp, soa, before, within}
+use Rattle.zone_set.proofs.Common.{◌≡◌, ◌≢◌, ◌+◌, refl, sym, ap, ◌∙◌, false≢true, name_cmp, soa, before, within}
 use Rattle.zone_set.proofs.Hints.HintOrder.{hint_after}
 use Rattle.zone_set.proofs.hint.hint_of.Goals as goal
 use Rattle.zone_set.proofs.hint.hint_of.Goals.{After-cmp}
@@ -16,7 +16,7 @@ returns-then-is_soa c = soa (c.if-is_soa.ensures.0 refl) refl
 pub returns-in-Some : goal.returns-in-Some
 returns-in-Some c =
     let found = c.in-Some.ensures.within in
-    within found.0 (λ e. false≢true (c.if-is_soa.ensures.1 e)) found.1 (ap (λ k. 2 * 2 ^ 57 + k) found.2)
+    within found.0 (λ e. false≢true (c.if-is_soa.ensures.1 e)) found.1 (ap (λ k. 2 + k) found.2)
 
 pub returns-in-Less : goal.returns-in-Less
 returns-in-Less c = let p = (goal.at.returns-in-Less c).After-cmp in before (other p) (lies p ∙ c.in-Less.is) refl
