@@ -4,7 +4,7 @@ ghost use Rattle.zone_set.specs.Machine.Hint.{first_digits, GathersOnes, IsHint,
 ghost use Rattle.zone_set.specs.Machine.LabelKey.{inner_digit, owner_key};
 
 use crate::order::are_same;
-use crate::owner::{first_label, past_far};
+use crate::owner::{are_ones, first_label, past_far};
 use std::cmp::Ordering;
 use zone_name::{Name, NameRef};
 use zone_rdata::Kind;
@@ -69,15 +69,15 @@ pub(crate) fn hint_of(base: &Name, owner: &NameRef<'_>, kind: Kind) -> u64
     }
 }
 
-/// How many of the nine digits of a hint don't tell owners apart that have the same hint, where it is
-/// that of owners at or below the base. `None`: it is another.
+/// How many of the nine digits of an owner at or below the base its hint may not tell. `None`: the hint
+/// is another's.
 pub(crate) fn untold_digits(hint: u64) -> Option<usize> {
     if hint < WITHIN || hint >= AFTER {
         return None;
     }
     let key = hint - WITHIN;
     let zeros = key.trailing_zeros() / 7;
-    // The digits of octets that have none of their own; after these there are zeros.
+    // These are the digits that octets share, after which there are zeros.
     match key.checked_shr(7 * zeros) {
         Some(digits) if matches!(digits & 127, 1 | 65 | 121) => Some(zeros as usize + 1),
         _ => Some(0),
@@ -133,34 +133,12 @@ fn gather_nine(octets: &[u8], near: usize) -> (u64, &[u8])
 fn nine_alone(octets: &[u8; 18]) -> Option<u64>
     ensures { IfSome result (λ number. GathersOnes octets.now 0 number []) }
 {
-    let [
-        n0,
-        c0,
-        n1,
-        c1,
-        n2,
-        c2,
-        n3,
-        c3,
-        n4,
-        c4,
-        n5,
-        c5,
-        n6,
-        c6,
-        n7,
-        c7,
-        n8,
-        c8,
-    ] = *octets;
-    if n0 != 1 || n1 != 1 || n2 != 1 || n3 != 1 || n4 != 1 {
+    let [_, a, _, b, _, c, _, d, _, e, _, f, _, g, _, h, last, i] = *octets;
+    if last != 1 || !are_ones(octets.as_slice()) {
         return None;
     }
-    if n5 != 1 || n6 != 1 || n7 != 1 || n8 != 1 {
-        return None;
-    }
-    let six = three(c8, c7, c6) * THREE + three(c5, c4, c3);
-    let digits = six * THREE + three(c2, c1, c0);
+    let six = three(i, h, g) * THREE + three(f, e, d);
+    let digits = six * THREE + three(c, b, a);
     if digits & LOWEST_BITS == 0 {
         // Each ends its label.
         Some(digits - LOWEST_BITS)
@@ -208,8 +186,8 @@ fn put_longer(label: &[u8], after: u64) -> u64
     }
 }
 
-/// Puts a label of fewer than nine octets before the digits of a number, by its own: those of octets
-/// that others follow.
+/// Puts a label of at most nine octets before the digits of a number, by its own digits, as if octets
+/// followed each.
 #[inline(always)]
 fn put_own(label: &[u8], digits: u64, shift: u32, after: u64) -> u64
     requires some { 0 < length label.now }
@@ -225,8 +203,8 @@ fn put_own(label: &[u8], digits: u64, shift: u32, after: u64) -> u64
     }
 }
 
-/// The digits of a label of nine octets or more, after which no digits of a number are left, by its
-/// first nine, as if octets followed each.
+/// Puts a label of nine octets or more in the place of all digits of a number, by its first nine, as
+/// if octets followed each.
 #[inline(always)]
 fn put_nine(label: &[u8], digits: u64, is_all: bool, after: u64) -> u64
     requires long { 9 ≤ length label.now }

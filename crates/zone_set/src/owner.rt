@@ -265,7 +265,7 @@ fn past_few_ones(name: &[u8], near: usize) -> Option<&[u8]>
 
 /// Whether the first 16 octets are eight after 1 each, and none of these is 1.
 #[inline(always)]
-fn are_ones(octets: &[u8]) -> bool
+pub(crate) fn are_ones(octets: &[u8]) -> bool
     requires { 16 ≤ length octets.now }
     ensures { IsTrue result → (others : List ℕ) × (take 16 octets.now ≡ each_after 1 others) }
 {

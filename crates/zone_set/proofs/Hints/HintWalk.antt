@@ -1,13 +1,13 @@
 -- A walk over the labels of an owner, until those that are left take no more octets than the base.
-use Rattle.zone_set.proofs.Common.{map, append-nil, slice_index_or, suc, zero, AllByRecursion, AllByRecursion-back, AllByRecursion-front, IsLabel, IsName, IsFirst, IsPutBefore, IsWithin, List, [], ap, append_assoc, arith, common_steps, first_digits, inl, inr, labels_of-wire, reverse, reverse-append, length, owner_key, refl, subst, sym, wire, ℕ, ⊎_elim, ◌*◌, ◌++◌, ◌+◌, ◌-◌, ◌<◌, ◌^◌, ◌∙◌, ◌∷◌, ◌≡◌, ◌≤◌, ◌⊎◌}
+use Rattle.zone_set.proofs.Common.{map, append-nil, suc, zero, AllByRecursion, AllByRecursion-back, AllByRecursion-front, IsLabel, IsName, IsFirst, IsPutBefore, IsWithin, List, [], ap, append_assoc, arith, common_steps, first_digits, inl, inr, labels_of-wire, reverse, reverse-append, drop, length, length-take-le, owner_key, take, take-append-drop, refl, subst, sym, wire, ℕ, ⊎_elim, ◌*◌, ◌++◌, ◌+◌, ◌-◌, ◌<◌, ◌^◌, ◌∙◌, ◌∷◌, ◌≡◌, ◌≤◌, ◌⊎◌}
 use lib.ListN.{length-append}
 use Rattle.zone_name.specs.Common.{each_after}
-use Rattle.zone_set.proofs.Ordering.Owners.{first_of_wire, one_octet}
+use Rattle.zone_set.proofs.Ordering.Owners.{first_of_wire, length_ones, one_octet}
 use Rattle.zone_set.specs.Machine.Hint.{GathersOnes}
 use Rattle.zone_set.specs.Machine.Owner.{IsEndOf}
 use Rattle.zone_set.proofs.Hints.Digits.{first_digits-bound}
 use Rattle.zone_set.proofs.Hints.LabelKey.{labels_key-append, labels_reverse, octets_enough, owner_low, owner_key-push}
-use Rattle.zone_set.proofs.Hints.Own.{lowest_bits, nine_ones}
+use Rattle.zone_set.proofs.Hints.Own.{all_firsts, firsts, lowest_bits, nine_ones, nth}
 use Rattle.zone_set.specs.Machine.LabelKey.{inner_digit, labels_key}
 use Rattle.std.specs.Prelude.{bit_and}
 
@@ -159,33 +159,31 @@ module _ (base owner : List (List ℕ)) (octets : List ℕ) (key : ℕ) (walked 
 
 -- ---- labels of one octet each
 
--- as many values as said, from the first on
-abbrev firsts : ℕ → (ℕ → ℕ) → List ℕ
-firsts zero f = []
-firsts (suc n) f = f 0 ∷ firsts n (λ k. f (suc k))
-
-all_firsts : (octets : List ℕ) → octets ≡ firsts (length octets) (λ k. slice_index_or octets k 0)
-all_firsts [] = refl
-all_firsts (c ∷ octets) = ap (λ t. c ∷ t) (all_firsts octets)
-
-module _ (octets : List ℕ) (long : length octets ≡ 18) where
-  abbrev nth : ℕ → ℕ
-  nth k = slice_index_or octets k 0
-
+-- nine of these
+module _ (octets : List ℕ) (long : length octets ≡ 18) (ones : (others : List ℕ) × (take 16 octets ≡ each_after 1 others)) (last : nth octets 16 ≡ 1) where
   abbrev nine : List ℕ
-  nine = nth 1 ∷ (nth 3 ∷ (nth 5 ∷ (nth 7 ∷ (nth 9 ∷ (nth 11 ∷ (nth 13 ∷ (nth 15 ∷ (nth 17 ∷ []))))))))
+  nine = nth octets 1 ∷ (nth octets 3 ∷ (nth octets 5 ∷ (nth octets 7 ∷ (nth octets 9 ∷ (nth octets 11 ∷ (nth octets 13 ∷ (nth octets 15 ∷ (nth octets 17 ∷ []))))))))
 
-  pub nine_gathered : (d : ℕ) → nth 0 ≡ 1 → nth 2 ≡ 1 → nth 4 ≡ 1 → nth 6 ≡ 1 → nth 8 ≡ 1 → nth 10 ≡ 1 → nth 12 ≡ 1 → nth 14 ≡ 1 → nth 16 ≡ 1
-      → d ≡ first_digits 9 (map inner_digit (reverse nine)) → bit_and d lowest_bits ≡ 0
-      → GathersOnes octets 0 (d - lowest_bits) []
-  nine_gathered d n0 n1 n2 n3 n4 n5 n6 n7 n8 is none =
-      let whole : octets ≡ firsts 18 nth = subst (λ n. octets ≡ firsts n nth) long (all_firsts octets) in
-      record {
-        others = nine;
-        begins = whole ∙ (λ i. n0 i ∷ (nth 1 ∷ (n1 i ∷ (nth 3 ∷ (n2 i ∷ (nth 5 ∷ (n3 i ∷ (nth 7 ∷ (n4 i ∷ (nth 9 ∷ (n5 i ∷ (nth 11 ∷ (n6 i ∷ (nth 13 ∷ (n7 i ∷ (nth 15 ∷ (n8 i ∷ (nth 17 ∷ []))))))))))))))))));
-        digits = nine_ones (reverse nine) d refl is none;
-        far = λ some. omega arith;
-      }
+  begins : octets ≡ each_after 1 (firsts 8 (nth ones.0)) ++ drop 16 octets
+  begins =
+      let eight : length ones.0 ≡ 8 = omega (arith, sym (length-take-le 16 octets (omega (arith, long))) ∙ ap length ones.1 ∙ length_ones ones.0) in
+      sym (take-append-drop 16 octets) ∙ ap (λ t. t ++ drop 16 octets) (ones.1 ∙ ap (each_after 1) (all_firsts 8 ones.0 eight))
+
+  is_one : (k : ℕ) → nth octets k ≡ nth (each_after 1 (firsts 8 (nth ones.0)) ++ drop 16 octets) k
+  is_one k = ap (λ l. nth l k) begins
+
+  nine_begin : octets ≡ each_after 1 nine ++ []
+  nine_begin =
+      let whole : octets ≡ firsts 18 (nth octets) = all_firsts 18 octets long in
+      whole ∙ (λ i. is_one 0 i ∷ (nth octets 1 ∷ (is_one 2 i ∷ (nth octets 3 ∷ (is_one 4 i ∷ (nth octets 5 ∷ (is_one 6 i ∷ (nth octets 7 ∷ (is_one 8 i ∷ (nth octets 9 ∷ (is_one 10 i ∷ (nth octets 11 ∷ (is_one 12 i ∷ (nth octets 13 ∷ (is_one 14 i ∷ (nth octets 15 ∷ (last i ∷ (nth octets 17 ∷ []))))))))))))))))))
+
+  pub nine_gathered : (d : ℕ) → d ≡ first_digits 9 (map inner_digit (reverse nine)) → bit_and d lowest_bits ≡ 0 → GathersOnes octets 0 (d - lowest_bits) []
+  nine_gathered d is none = record {
+    others = nine;
+    begins = nine_begin;
+    digits = nine_ones (reverse nine) d refl is none;
+    far = λ some. omega arith;
+  }
 
 -- and more octets follow these
 pub gathered_before : (front octets rest : List ℕ) (near number : ℕ) → GathersOnes front 0 number [] → octets ≡ front ++ rest → near ≤ length rest → GathersOnes octets near number rest

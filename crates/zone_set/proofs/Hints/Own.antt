@@ -1,6 +1,6 @@
 -- Labels of octets that have digits of their own, by the number of their digits if octets followed
 -- each.
-use Rattle.zone_set.proofs.Common.{AllByRecursion, AreDigits, Bool, IsPutBefore, List, [], ap, append-nil, append_assoc, arith, drop, eq-eqb, eqb-true, false, false≢true, first_digits, if◌then◌else◌, inl, inr, length, length-drop, length-take-le, map, min, nil_from_length, octets_key, refl, slice_index_or, subst, suc, sym, take, take-append-drop, take-length, true, zero, ℕ, ⊎_elim, ◌*◌, ◌++◌, ◌+◌, ◌-◌, ◌/◌, ◌<◌, ◌==◌, ◌^◌, ◌∙◌, ◌∷◌, ◌≡◌, ◌≤◌, ◌⊎◌}
+use Rattle.zone_set.proofs.Common.{AllByRecursion, AreDigits, Bool, IsPutBefore, List, [], ap, append-nil, append_assoc, arith, drop, eq-eqb, eqb-true, false, false≢true, first_digits, if◌then◌else◌, inl, inr, length, length-take-le, map, min, octets_key, refl, slice_index_or, subst, suc, sym, take, take-append-drop, take-length, true, zero, ℕ, ⊎_elim, ◌*◌, ◌++◌, ◌+◌, ◌-◌, ◌/◌, ◌<◌, ◌==◌, ◌^◌, ◌∙◌, ◌∷◌, ◌≡◌, ◌≤◌, ◌⊎◌}
 use Rattle.std.proofs.Math.Nat.{add-mul, div-div-eq-div-mul, div-eq_of_lt, div-le_self, mul-le-mul_right, mul_assoc, mul_comm, one-le-pow, pow-suc}
 use Rattle.std.proofs.lemmas.Bool.{agree_below_at}
 use Rattle.std.proofs.lemmas.Nat.{pow-add}
@@ -269,7 +269,7 @@ some_of_nine (c ∷ label) long = omega arith
 
 -- ---- the octets of a label as they are read
 
-abbrev nth : List ℕ → ℕ → ℕ
+abbrev pub nth : List ℕ → ℕ → ℕ
 nth octets k = slice_index_or octets k 0
 
 -- as many values as said, from the first on
@@ -282,6 +282,12 @@ firsts_is zero octets within = refl
 firsts_is (suc n) [] within = absurd (omega (arith, within))
 firsts_is (suc n) (c ∷ octets) within = ap (λ t. c ∷ t) (firsts_is n octets (omega (arith, within)))
 
+pub all_firsts : (n : ℕ) (octets : List ℕ) → length octets ≡ n → octets ≡ firsts n (nth octets)
+all_firsts zero [] is = refl
+all_firsts zero (c ∷ octets) is = absurd (omega (arith, is))
+all_firsts (suc n) [] is = absurd (omega (arith, is))
+all_firsts (suc n) (c ∷ octets) is = ap (λ t. c ∷ t) (all_firsts n octets (omega (arith, is)))
+
 -- the digits of as many octets as said
 pub number_of : (n m : ℕ) (octets : List ℕ) → n ≡ m → m ≤ length octets → first_digits n (map inner_digit octets) ≡ first_digits m (map inner_digit (firsts m (nth octets) ++ drop m octets))
 number_of n m octets is within = ap (λ k. first_digits k (map inner_digit octets)) is ∙ ap (λ l. first_digits m (map inner_digit l)) (firsts_is m octets within)
@@ -291,9 +297,8 @@ pub number_of_parts : (n m k : ℕ) (octets front rest : List ℕ) → front ≡
     → first_digits n (map inner_digit octets) ≡ first_digits m (map inner_digit (firsts 4 (nth front) ++ (firsts k (nth rest) ++ drop k rest)))
 number_of_parts n m k octets front rest first last long is within =
     let four : length front ≡ 4 = ap length first ∙ length-take-le 4 octets long in
-    let none : drop 4 front ≡ [] = nil_from_length _ (length-drop 4 front ∙ omega (arith, four)) in
-    let begins : front ≡ firsts 4 (nth front) ++ [] = firsts_is 4 front (omega (arith, four)) ∙ ap (λ t. firsts 4 (nth front) ++ t) none in
+    let begins : front ≡ firsts 4 (nth front) = all_firsts 4 front four in
     let parts : octets ≡ front ++ rest = sym (take-append-drop 4 octets) ∙ ap (λ t. t ++ drop 4 octets) (sym first) ∙ ap (λ t. front ++ t) (sym last) in
     let ends : rest ≡ firsts k (nth rest) ++ drop k rest = firsts_is k rest within in
     ap (λ j. first_digits j (map inner_digit octets)) is
-    ∙ ap (λ l. first_digits m (map inner_digit l)) (parts ∙ ap (λ t. t ++ rest) (begins ∙ append-nil (firsts 4 (nth front))) ∙ ap (λ t. firsts 4 (nth front) ++ t) ends)
+    ∙ ap (λ l. first_digits m (map inner_digit l)) (parts ∙ ap (λ t. t ++ rest) begins ∙ ap (λ t. firsts 4 (nth front) ++ t) ends)

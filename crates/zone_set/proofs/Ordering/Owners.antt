@@ -118,7 +118,7 @@ after_ones (c ∷ others) rest =
     let after = each_after 1 others ++ rest in
     labels_of-first (1 ∷ (c ∷ after)) (c ∷ []) after (one_octet 1 c after refl) ∙ ap (λ ls. (c ∷ []) ∷ ls) (after_ones others rest)
 
-length_ones : (others : List ℕ) → length (each_after 1 others) ≡ 2 * length others
+pub length_ones : (others : List ℕ) → length (each_after 1 others) ≡ 2 * length others
 length_ones [] = refl
 length_ones (c ∷ others) = let same : length (each_after 1 (c ∷ others)) ≡ suc (suc (length (each_after 1 others))) = refl in omega (arith, same, length_ones others)
 
