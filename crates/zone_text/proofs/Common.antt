@@ -55,7 +55,6 @@ pub use Rattle.zone_text.specs.FileReads.{Ending, FileReads, ReadEach, broken, r
 pub use Rattle.zone_text.specs.Inherited.{HasClass, IsLastOwner, IsOrigin, IsOwner, IsTtl, SpellsAfter, class_word, default_ttl_text, latest, origin_text, owner_text, stated_ttl, ttl_text}
 pub use Rattle.zone_text.specs.Lasting.{BreaksAtEnd, BreaksForGood, EndInLineFeed, IsCutOff, IsLostEscape, StaysBroken, after_backslash, after_digit, after_two_digits, at_line_end, closing_stays, escape_open, escape_stays, nothing_left, one_digit, quote_open, quoted_escape_open, quoted_escape_stays, too_great, two_digits}
 pub use Rattle.zone_text.specs.Line.{IsItem, StatesWhole, line_of}
-pub use Rattle.zone_text.specs.Machine.Blank.{AreEmptyLines, no_lines, one_line_more}
 pub use Rattle.zone_text.specs.Machine.Cutting.{Cutting, Front, Sign, a_blank, a_closing, a_line_feed, a_quote, a_semicolon, an_opening, bare_front, cut_on, depth_past, end_front, front_by, of_item, quoted_front, sign_of, stops, takes}
 unfoldable pub use Rattle.zone_text.specs.Machine.Cutting.{before_line_feed, cut_by, cutting, from_line_feed, front_of}
 pub use Rattle.zone_text.proofs.Entries.Heads.{HasHeadOf, Head}

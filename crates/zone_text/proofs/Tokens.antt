@@ -1,5 +1,4 @@
 -- A text cut into tokens, and the items of these.
-pub mod EmptyLines
 pub mod CutAgain
 pub mod Cuttings
 pub mod FirstTokens

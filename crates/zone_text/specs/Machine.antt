@@ -1,5 +1,4 @@
 -- What private functions and proofs cite, and no public clause.
-pub mod Blank
 pub mod Cutting
 pub mod EntryReading
 pub mod Feeding

@@ -2,7 +2,6 @@
 //! first fault (RFC 1035 5, RFC 2308 4, RFC 3597 5).
 #![tactic(auto)]
 
-mod blank;
 mod ended;
 mod entry;
 pub mod examples;

@@ -4,7 +4,6 @@ ghost use Rattle.std.specs.Prelude.{◌≡◌, ◌+◌, ◌<◌, ◌≤◌, ◌^
 ghost use Rattle.zone_text.specs.Machine.Feeding.{Follow, FollowOn, IsSplitter, reach, ReadsAll, ReadsOctets, TakesPart};
 ghost use Rattle.zone_text.specs.declared.open_entry.EntryState.TheVariants.{Open};
 
-use crate::blank::empty_lines;
 use crate::ended::EndedEntries;
 use crate::entry::cut_entry;
 use crate::open_entry::{EntryState, OpenEntry};
@@ -42,7 +41,7 @@ impl EntrySplitter {
     }
 
     /// Takes the octets of a piece up to a fault.
-    #[tactic(auto, using(crate::proofs::Tokens::EmptyLines::feeds))]
+    #[tactic(auto, using(crate::proofs::Scanning::FedPieces::feeds))]
     pub(crate) fn feed(&mut self, piece: &[u8]) -> Result<(), AllocError>
         requires is { IsSplitter self.old.ended self.old.unfinished }
         requires fits { reach self.old + length piece.now < 2 ^ 64 }
@@ -58,13 +57,6 @@ impl EntrySplitter {
         let mut stops = Stops::unseen(piece);
         while !rest.is_empty() && self.ended.decided.ending.is_none() {
             if self.unfinished.octets().is_empty() {
-                let empty = empty_lines(rest);
-                if empty.count > 0 {
-                    self.ended.line += empty.count as u64;
-                    rest = empty.rest;
-                    stops = Stops::unseen(rest);
-                    continue;
-                }
                 if let Reached::Ends(len, feeds) = walk(rest, &mut stops, &mut items)? {
                     let (entry, after) = rest.split_at(len);
                     self.ended.read(entry, &items, feeds)?;

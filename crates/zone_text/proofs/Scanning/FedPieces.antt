@@ -1,7 +1,7 @@
 -- A piece fed part by part.
-use Rattle.zone_text.proofs.Common.{EndedEntries, EntrySplitter, Fault, Follow, IsBrokenOff, IsOneEntry, IsOpen, IsSplitter, Labels, Line, List, None, Place, Placed, ReadsOctets, Some, [], ap, append-nil, append_assoc, arith, drop, length, length-append, length-take, subst, sym, take, take-append-drop, ℕ, ◌++◌, ◌+◌, ◌-◌, ◌<◌, ◌∙◌, ◌≡◌, ◌≤◌}
+use Rattle.zone_text.proofs.Common.{EndedEntries, EntrySplitter, Fault, Follow, IsBrokenOff, IsOneEntry, IsOpen, IsSplitter, Labels, Line, List, None, Place, Placed, ReadsOctets, Some, [], ap, append-nil, append_assoc, arith, drop, false, length, length-append, length-take, rules, subst, sym, take, take-append-drop, ℕ, ◌++◌, ◌+◌, ◌<◌, ◌==◌, ◌∙◌, ◌≡◌, ◌≤◌}
 use Rattle.std.proofs.lemmas.List.{take-take}
-use Rattle.zone_text.proofs.Entries.Begun.{nothing_taken}
+use Rattle.zone_text.proofs.Entries.Begun.{none_found, none_left, nothing_taken}
 use Rattle.zone_text.proofs.Files.Followed.{follow_break, follow_fault, follow_on, follow_one}
 use Rattle.zone_text.specs.Machine.Feeding.{TakesPart}
 use Rattle.zone_text.specs.OpenEntry.{EntryIs, HeldEntry, TakesFrom}
@@ -135,3 +135,10 @@ fed_all old new piece rest before none origin fed given f =
 -- or the beginning of it, after which a fault is decided
 pub fed_fault : (old new : EntrySplitter) (piece rest : List ℕ) (found : Fault × Place) → HasFed old new piece rest → new.ended.decided.ending ≡ Some found → FollowsOn old.ended old.unfinished.octets new.ended new.unfinished.octets piece
 fed_fault old new piece rest found before ending origin fed given f = grind (arith, append_assoc fed before.front rest, follow_fault origin new.ended found new.unfinished.octets rest (fed ++ before.front) given ending (before.follow origin fed given f))
+
+-- ---- what every feeding of a piece stands on
+
+pub not_empty : (octets : List ℕ) → false ≡ (length octets == 0) → octets ≡ [] → ⊥
+not_empty octets some none = search rules
+
+pub ruleset feeds = (fed_part, part_less, none_found, none_left, not_empty)

@@ -32,7 +32,7 @@ keeps_items octets part n kept first front tokens cut = search (rules, one_cut p
 
 -- ---- the entry at the front of a piece
 
-pub fed_one : (old mid new : EntrySplitter) (piece rest part after : List ℕ) (tokens : List Token) → HasFed old mid piece rest → mid.ended.decided.ending ≡ None → mid.unfinished.octets ≡ [] → IsOneEntry part tokens → rest ≡ part ++ after → ReadsOctets part mid.ended new.ended → new.unfinished ≡ mid.unfinished → HasFed old new piece after
+fed_one : (old mid new : EntrySplitter) (piece rest part after : List ℕ) (tokens : List Token) → HasFed old mid piece rest → mid.ended.decided.ending ≡ None → mid.unfinished.octets ≡ [] → IsOneEntry part tokens → rest ≡ part ++ after → ReadsOctets part mid.ended new.ended → new.unfinished ≡ mid.unfinished → HasFed old new piece after
 fed_one old mid new piece rest part after tokens before none empty one whole reads same =
     let len : length rest ≡ length part + length after = ap length whole ∙ length-append part after in
     let held : new.unfinished.octets ≡ mid.unfinished.octets = ap (λ (h : HeldEntry). h.octets) same in

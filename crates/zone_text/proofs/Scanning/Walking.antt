@@ -1,7 +1,6 @@
 -- A walk over an entry, token by token, which may stop where octets end.
 use Rattle.zone_text.proofs.Common.{All, AllByRecursion, AreKept, BadEscape, Bool, BreaksAtEnd, Cut, Cuts, EndsAt, Fault, IsBadEscape, IsBroken, IsBrokenOff, IsCutOff, IsFirstEntry, IsLostEscape, IsOpen, IsToken, IsUnit, Keeps, KeepsBare, List, MayEndBefore, None, Option, RawItem, Some, StaysBroken, Token, UnbalancedParenthesis, UnclosedQuote, Written, [], ap, append-nil, append_assoc, arith, at_end, at_line_end, at_octet, bare, blank, both_ways, closes_nothing, closing, closing_stays, comment, common_steps, cut_from, depth_after, depth_past, drop, drop-append_seam, drop-drop, ends_item, escape_open, escape_stays, false, flat_map, flat_map-append, in_front_of, inl, inr, is_blank, is_quote, item_of, length, length-append, length-drop, length-map, length-take, line_feed, map, ne_eqb, no_escape, no_quote, no_quoted_escape, not_closed, nothing_left, one_digit, opening, or_parts, plain, quote_open, quoted, quoted_escape_open, quoted_escape_stays, recursion_from_All, refl, stops_bare, subst, suc, sum_by-cons, sym, take, take-append-drop, take-append_seam, text, token_text, too_great, true, two_digits, written_text, zero, ℕ, ⊤, ◌++◌, ◌+◌, ◌-◌, ◌<◌, ◌==◌, ◌∙◌, ◌∷◌, ◌≡◌, ◌≢◌, ◌≤◌}
 use Rattle.std.specs.List.{prefix_len}
-use Rattle.std.specs.Prelude.{not}
 use Rattle.zone_rdata.specs.Item as raw
 use Rattle.zone_text.proofs.Entries.Kept.{keeps_more}
 use Rattle.zone_text.proofs.Files.Left.{line_feeds}

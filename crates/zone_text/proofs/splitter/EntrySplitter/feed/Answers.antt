@@ -1,21 +1,11 @@
 use Rattle.zone_text.proofs.Common.{length, refl, subst, sym, true, ◌∙◌}
-use Rattle.zone_text.proofs.Tokens.EmptyLines.{fed_lines, not_empty}
 use Rattle.zone_text.proofs.Scanning.FirstEntries.{keeps_items, fed_entry}
 use Rattle.zone_text.proofs.Scanning.Walking.{first_of}
 use Rattle.zone_text.proofs.Entries.Begun.{none_found, none_left, some_found}
-use Rattle.zone_text.proofs.Scanning.FedPieces.{fed_all, fed_fault}
+use Rattle.zone_text.proofs.Scanning.FedPieces.{fed_all, fed_fault, not_empty}
 use Rattle.zone_text.specs.Machine.Stops.{Tells}
 use Rattle.zone_text.proofs.splitter.EntrySplitter.feed.Goals as goal
 use Rattle.zone_text.proofs.splitter.EntrySplitter.feed.Goals.{then-loop-self-test+else-is_none, else-loop-self-test}
-
-pub loop-self-preserved-then-empty-gt0 : goal.loop-self-preserved-then-empty-gt0
-loop-self-preserved-then-empty-gt0 c =
-    let none = none_found c.loop-self.self.ended.decided.ending c.if-is_none.ensures in
-    record {
-      fed = fed_lines c.args.self.now c.loop-self.self c.args.piece.now c.loop-self.rest.now c.empty_lines-empty.result.rest.now c.empty_lines-empty.result.count c.loop-self.invariant.fed none (sym c.octets.ensures ∙ none_left c.octets.result.now (length c.octets.result.now) c.is_empty-in-loop-self.result refl c.is_empty-in-loop-self.ensures c.if-is_empty.true) c.empty_lines-empty.ensures.are;
-      tells = c.unseen-stops-then-empty-gt0.ensures;
-      nothing = λ e. absurd (not_empty c.loop-self.rest.now c.loop-self-test.ensures (c.loop-self.invariant.nothing e).1);
-    }
 
 pub loop-self-preserved-in-Ends : goal.loop-self-preserved-in-Ends
 loop-self-preserved-in-Ends c =
