@@ -90,6 +90,7 @@ COSTLY = {
     "owners of 118 labels, the middle one differs": ("file", lambda n: below(MIDDLE + b"test.", each(middle_label, n)), 8_000),
     "those, the last of another TTL": (
         "file", lambda n: below(MIDDLE + b"test.", each(middle_label, n) + MIDDLE + b"00000" + OTHER_TTL), 8_000),
+    "owners that begin with \\001": ("file", lambda n: SOA + each(lambda k: b"\\001%05x A 1.1.1.1\n" % k, n), 45_000),
     "a line again and again, under 119 labels": ("file", lambda n: below(DEEP, b"a NS a\n" + b" NS a\n" * n), 160_000),
     "two lines in turn": ("file", lambda n: below(DEEP, b"a NS a\n" + b" NS a\n NS b\n" * n), 80_000),
     "an SOA again and again": (
