@@ -7,7 +7,9 @@ ghost use Rattle.zone_set.specs.Machine.Bulk.{is_repeat, with_hint, AreNeighbour
 ghost use Rattle.zone_set.specs.Machine.Held.{all_records, entry_record, IsEntry};
 ghost use Rattle.zone_set.specs.Zone.{AreCompatible, SameRecords};
 
+use crate::ahead::{AHEAD, records_stand, run_stands};
 use crate::entry::Entry;
+use crate::hint::told_front;
 use crate::keys::{FEW, first_digit, first_run, sort_all, sort_by_hint, sort_run};
 use crate::offered::canonical_order;
 use crate::put::has_other_ttl;
@@ -16,9 +18,6 @@ use crate::stored::record_at;
 use crate::tie;
 use std::cmp::Ordering;
 use zone_rdata::Class;
-
-/// How many entries are looked at at once.
-const AHEAD: usize = 16;
 
 /// Puts entries in order and drops those of equal records, where their records can stand together.
 /// Else they are of the same records, in any order. Where they are as many as before, none was
@@ -54,9 +53,7 @@ fn sort_and_look(class: Class, base_len: usize, octets: &[u8], entries: &mut Vec
     ensures next { IsTrue result
         → AreNeighbours (all_records class octets.now entries.new.items) }
 {
-    // The root's octet is no digit, and a hint has nine after the base's.
-    let front = base_len.saturating_add(8);
-    let entries = entries.as_mut_slice();
+    let (entries, front) = (entries.as_mut_slice(), told_front(base_len));
     if put_runs(class, octets, entries, front) {
         return true;
     }
@@ -147,52 +144,6 @@ fn put_last(class: Class, octets: &[u8], entries: &mut [Entry]) -> bool
         at -= 1;
     }
     true
-}
-
-/// Whether records stand where the next entries say that share a hint, as they do. By the question
-/// their octets come out of memory side by side, and not one after another as they are compared.
-fn records_stand(octets: &[u8], entries: &[Entry]) -> bool {
-    let ahead = &entries[..entries.len().min(AHEAD + 1)];
-    let mut stand = true;
-    for next in 1..ahead.len() {
-        let (a, b) = (ahead[next - 1], ahead[next]);
-        if a.hint == b.hint {
-            stand &= stands(octets, a.at) & stands(octets, b.at);
-        }
-    }
-    stand
-}
-
-/// As `records_stand`, of the next entries if all share a hint: in a long run the cache holds other
-/// records when that is sorted.
-// Not inlined: so it costs nothing where it isn't asked.
-#[inline(never)]
-fn run_stands(octets: &[u8], entries: &[Entry]) -> bool {
-    let ahead = &entries[..entries.len().min(AHEAD)];
-    let (Some(first), Some(last)) = (ahead.first(), ahead.last()) else {
-        return true;
-    };
-    let mut stand = true;
-    if first.hint == last.hint {
-        for entry in ahead {
-            stand &= stands(octets, entry.at);
-        }
-    }
-    stand
-}
-
-/// The octets of an owner that mostly ends in the line of the cache in which it begins.
-const SHORT_OWNER: u8 = 40;
-
-/// Whether a record stands at a place, where its owner is long told by the root's label at its end. So
-/// the lines of the cache are asked for in which the owner begins and ends.
-fn stands(octets: &[u8], at: usize) -> bool {
-    // `tie::stored_at` tells it by the whole head, in half as much again.
-    match octets.get(at.wrapping_add(6)) {
-        Some(owner_len) if *owner_len <= SHORT_OWNER => true,
-        Some(owner_len) => octets.get(at.wrapping_add(8 + *owner_len as usize)) == Some(&0),
-        None => false,
-    }
 }
 
 /// Drops each entry whose record is that of the one before it.

@@ -18,6 +18,9 @@ const WITHIN: u64 = 2;
 /// The hint of an owner after the base, but for those at or below it.
 const AFTER: u64 = WITHIN + (1 << 63);
 
+/// How many digits a hint has, each of an octet.
+const DIGITS: usize = 9;
+
 /// What a digit to the base 128 counts that two follow.
 const TWO: u64 = 128 * 128;
 
@@ -69,19 +72,34 @@ pub(crate) fn hint_of(base: &Name, owner: &NameRef<'_>, kind: Kind) -> u64
     }
 }
 
-/// How many of the nine digits of an owner at or below the base its hint may not tell. `None`: the hint
-/// is another's.
-pub(crate) fn untold_digits(hint: u64) -> Option<usize> {
+/// How many digits of keys stand before those of types, where hints tell owners whole: those of the
+/// base, whose root's octet is none, and those of a hint.
+pub(crate) fn told_front(base_len: usize) -> usize {
+    base_len.saturating_add(DIGITS - 1)
+}
+
+/// The first digit of keys that the hint of an owner at or below the base may not tell. `None`: the
+/// hint is another's.
+pub(crate) fn first_untold(hint: u64, front: usize) -> Option<usize> {
     if hint < WITHIN || hint >= AFTER {
         return None;
     }
     let key = hint - WITHIN;
-    let zeros = key.trailing_zeros() / 7;
-    // These are the digits that octets share, after which there are zeros.
-    match key.checked_shr(7 * zeros) {
-        Some(digits) if matches!(digits & 127, 1 | 65 | 121) => Some(zeros as usize + 1),
-        _ => Some(0),
-    }
+    let zeros = (key.trailing_zeros() / 7) as usize;
+    // In keys the end of a label has a digit of its own.
+    let ends = (key & LOWEST_BITS).count_ones() as usize;
+    let told = match key.checked_shr(7 * zeros as u32) {
+        // Neither this digit nor what follows it is told.
+        Some(digits) if is_shared(digits % 128) => (DIGITS - 1 + ends - 1).saturating_sub(zeros),
+        _ if zeros > 0 => DIGITS,
+        _ => DIGITS + ends,
+    };
+    Some(front.saturating_sub(DIGITS).saturating_add(told))
+}
+
+/// Whether a digit is one that octets share.
+fn is_shared(digit: u64) -> bool {
+    digit == one(0) || digit == one(b'A') || digit == one(u8::MAX)
 }
 
 /// The first nine digits of the key of the labels before the base's. `None`: the owner doesn't lie

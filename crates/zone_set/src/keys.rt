@@ -2,8 +2,9 @@ ghost use Rattle.std.specs.Prelude.{◌≡◌, ◌<◌, ◌≤◌, [], length, m
 ghost use Rattle.std.specs.List.Sorted.{IsPermutation};
 ghost use Rattle.zone_set.specs.Machine.Bulk.{with_hint};
 
+use crate::ahead::{AHEAD, run_stands};
 use crate::entry::Entry;
-use crate::hint::untold_digits;
+use crate::hint::first_untold;
 use crate::owner::{first_label, past_far, shared_end};
 use crate::tie::{StoredParts, stored_at, tie_order};
 
@@ -50,8 +51,8 @@ pub(crate) fn first_digit(hint: u64, front: usize, digit: usize) -> usize
     ensures { digit ≤ result }
 {
     // At first hints are no keys.
-    match untold_digits(hint) {
-        Some(untold) if digit == 0 => front.saturating_sub(untold),
+    match first_untold(hint, front) {
+        Some(first) if digit == 0 => first,
         _ => digit,
     }
 }
@@ -99,15 +100,16 @@ pub(crate) fn sort_run(run: &mut [Entry], octets: &[u8], front: usize, hint: u64
     if run.is_sorted_by(|a, b| tie_order(octets, a.at, b.at).is_le()) {
         return;
     }
-    let digit = digit.max(shared_digits(run, octets, front));
+    let digit = digit.max(shared_digits(run, octets, front, digit));
     set_keys(run, octets, front, digit);
     sort(run, octets, front, digit.saturating_add(8));
     set_hint(run, hint);
 }
 
-/// How many digits of their owners all records of a run have in common, or fewer.
+/// How many digits of their owners all records of a run have in common, or fewer. It isn't looked
+/// further for where no more than those before one are.
 #[inline(never)]
-fn shared_digits(run: &[Entry], octets: &[u8], front: usize) -> usize {
+fn shared_digits(run: &[Entry], octets: &[u8], front: usize, digit: usize) -> usize {
     let Some((first, rest)) = run.split_first() else {
         return 0;
     };
@@ -124,6 +126,10 @@ fn shared_digits(run: &[Entry], octets: &[u8], front: usize) -> usize {
         };
         all &= other.owner.len() == whole;
         end = shared_end(end, other.owner);
+        // The root's octet is no digit.
+        if end.len() <= digit.saturating_add(1) {
+            return 0;
+        }
     }
     if all && end.len() == whole {
         front.max(whole)
@@ -132,12 +138,17 @@ fn shared_digits(run: &[Entry], octets: &[u8], front: usize) -> usize {
     }
 }
 
-/// Gives each entry the key of its record.
+/// Gives each entry the key of its record, in place of the one hint that all have.
 fn set_keys(run: &mut [Entry], octets: &[u8], front: usize, digit: usize)
     ensures { map (λ e. e.at) run.new ≡ map (λ e. e.at) run.old }
 {
-    for entry in run.iter_mut() {
-        entry.hint = key_of(octets, entry.at, front, digit);
+    let mut next = 0;
+    while next < run.len() {
+        if next % AHEAD == 0 && !run_stands(octets, &run[next..]) {
+            return;
+        }
+        run[next].hint = key_of(octets, run[next].at, front, digit);
+        next += 1;
     }
 }
 

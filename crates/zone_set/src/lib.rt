@@ -3,6 +3,7 @@
 //! RFC 2181 5, RFC 4034 6).
 #![tactic(auto)]
 
+mod ahead;
 mod builder;
 mod bulk;
 mod entry;

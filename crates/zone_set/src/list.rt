@@ -15,7 +15,7 @@ ghost use Rattle.zone_set.specs.ZoneList.{IsSettledAs, ListsAll, StopsListing, S
 use crate::builder::ZoneBuilder;
 use crate::bulk::settle;
 use crate::entry::Entry;
-use crate::hint::hint_of;
+use crate::hint::{hint_of, told_front};
 use crate::kept_records::KeptRecords;
 use crate::messages::len_of_entries;
 use crate::offer::offer;
@@ -167,7 +167,7 @@ impl ZoneList {
     fn drop_repeats(&mut self) -> Result<(), AllocError>
         ensures { Tells self.old self.new }
     {
-        let front = self.base.wire().len().saturating_add(8);
+        let front = told_front(self.base.wire().len());
         let mut groups = Groups::new(
             self.alloc,
             self.octets.as_slice(),

@@ -2,16 +2,13 @@ ghost use Rattle.std.specs.Prelude.{◌≡◌, ◌≤◌, ◌++◌, [], drop, le
 ghost use Rattle.std.specs.List.{AllByRecursion};
 ghost use Rattle.zone_set.specs.Machine.Held.{all_records, IsLinked, IsSeen, seen_record};
 
+use crate::ahead::{AHEAD, rest_stands};
 use crate::entry::Entry;
 use crate::stored::{Head, head_at, record_after};
 use arrayvec::ArrayVec;
 use sorted_chunks::Iter;
 use std::marker::Model;
 use zone_rdata::{Class, RrRef};
-
-/// How many heads are read at once. Records stand in another order than this one, and so heads come
-/// out of memory side by side.
-const AHEAD: usize = 16;
 
 /// The records of a zone that are left, in canonical order.
 #[derive(Drop)]
@@ -78,8 +75,8 @@ impl<'z> Iterator for Records<'z> {
     }
 }
 
-/// Reads the next heads where all are gone, and answers how many are gone then. There is none only
-/// where no entry is left.
+/// Reads the next heads where all are gone, so that they come out of memory side by side, and answers
+/// how many are gone then. There is none only where no entry is left.
 fn read_ahead(
     class: Class,
     octets: &[u8],
@@ -106,6 +103,9 @@ fn read_ahead(
             break;
         };
         heads.push(head_at(octets, entry.at));
+        if !rest_stands(octets, entry.at) {
+            break;
+        }
     }
     0
 }

@@ -61,9 +61,14 @@ even_digits (suc n) (d ∷ digits) low bits =
     let first : d % 2 ≡ 0 = sym lowest ∙ sym (bit_at_cat_high d (7 * n) rest (7 * n) within (omega arith)) ∙ ap (λ m. bit_at m (7 * n)) (sym same) ∙ bits n (omega arith) in
     (first, even_digits n digits low.1 (λ j lt. sym (bit_at_cat_low d (7 * n) rest (7 * j) (omega (arith, lt))) ∙ ap (λ m. bit_at m (7 * j)) (sym same) ∙ bits j (omega (arith, lt))))
 
+-- n digits of 1
+abbrev ones : ℕ → ℕ
+ones zero = 0
+ones (suc n) = 128 ^ n + ones n
+
 -- the lowest bits of nine digits
 abbrev pub lowest_bits : ℕ
-lowest_bits = 72624976668147841
+lowest_bits = ones 9
 
 lowest_is : (j : ℕ) → j < 9 → bit_at lowest_bits (7 * j) ≡ 1
 lowest_is j lt = eqb-true (bit_at lowest_bits (7 * j)) 1 (agree_below_at (λ j. bit_at lowest_bits (7 * j) == 1) (λ j. true) 9 j refl lt)
@@ -161,10 +166,6 @@ put_more_is label digits d long is none =
 
 -- ---- labels of one octet each
 
-abbrev ones : ℕ → ℕ
-ones zero = 0
-ones (suc n) = 128 ^ n + ones n
-
 ones_key : (n : ℕ) (octets : List ℕ) → length octets ≡ n → AreOwn octets → first_digits n (labels_key (map (λ c. c ∷ []) octets) []) + ones n ≡ first_digits n (map inner_digit octets)
 ones_key zero octets is own = refl
 ones_key (suc n) [] is own = absurd (omega (arith, is))
@@ -181,8 +182,7 @@ nine_ones octets d nine is none =
     let whole : take 9 octets ≡ octets = ap (λ n. take n octets) (sym nine) ∙ take-length octets in
     let own = subst AreOwn whole (own_first 9 octets (omega arith) (subst (λ x. bit_and x lowest_bits ≡ 0) is none)) in
     let key = ones_key 9 octets nine own in
-    let all : ones 9 ≡ lowest_bits = refl in
-    omega (arith, key, is, all)
+    omega (arith, key, is)
 
 -- ---- octet by octet, from the last
 
@@ -292,13 +292,23 @@ all_firsts (suc n) (c ∷ octets) is = ap (λ t. c ∷ t) (all_firsts n octets (
 pub number_of : (n m : ℕ) (octets : List ℕ) → n ≡ m → m ≤ length octets → first_digits n (map inner_digit octets) ≡ first_digits m (map inner_digit (firsts m (nth octets) ++ drop m octets))
 number_of n m octets is within = ap (λ k. first_digits k (map inner_digit octets)) is ∙ ap (λ l. first_digits m (map inner_digit l)) (firsts_is m octets within)
 
--- and of four and more, read apart
-pub number_of_parts : (n m k : ℕ) (octets front rest : List ℕ) → front ≡ take 4 octets → rest ≡ drop 4 octets → 4 ≤ length octets → n ≡ m → k ≤ length rest
-    → first_digits n (map inner_digit octets) ≡ first_digits m (map inner_digit (firsts 4 (nth front) ++ (firsts k (nth rest) ++ drop k rest)))
-number_of_parts n m k octets front rest first last long is within =
-    let four : length front ≡ 4 = ap length first ∙ length-take-le 4 octets long in
+-- the first four octets and what follows
+abbrev AreFourAndRest : List ℕ → List ℕ → List ℕ → Type 0
+AreFourAndRest octets front rest = (front ≡ take 4 octets) × (rest ≡ drop 4 octets) × (length rest + 4 ≡ length octets)
+
+-- the digits of the four and of k that follow
+pub number_of_parts : (k : ℕ) (octets front rest : List ℕ) → AreFourAndRest octets front rest → k ≤ length rest
+    → first_digits (4 + k) (map inner_digit octets) ≡ first_digits (4 + k) (map inner_digit (firsts 4 (nth front) ++ (firsts k (nth rest) ++ drop k rest)))
+number_of_parts k octets front rest cut within =
+    let four : length front ≡ 4 = ap length cut.0 ∙ length-take-le 4 octets (omega (arith, cut.2)) in
     let begins : front ≡ firsts 4 (nth front) = all_firsts 4 front four in
-    let parts : octets ≡ front ++ rest = sym (take-append-drop 4 octets) ∙ ap (λ t. t ++ drop 4 octets) (sym first) ∙ ap (λ t. front ++ t) (sym last) in
+    let parts : octets ≡ front ++ rest = sym (take-append-drop 4 octets) ∙ ap (λ t. t ++ drop 4 octets) (sym cut.0) ∙ ap (λ t. front ++ t) (sym cut.1) in
     let ends : rest ≡ firsts k (nth rest) ++ drop k rest = firsts_is k rest within in
-    ap (λ j. first_digits j (map inner_digit octets)) is
-    ∙ ap (λ l. first_digits m (map inner_digit l)) (parts ∙ ap (λ t. t ++ rest) begins ∙ ap (λ t. firsts 4 (nth front) ++ t) ends)
+    ap (λ l. first_digits (4 + k) (map inner_digit l)) (parts ∙ ap (λ t. t ++ rest) begins ∙ ap (λ t. firsts 4 (nth front) ++ t) ends)
+
+-- which are all
+pub number_of_all : (k : ℕ) (octets front rest : List ℕ) → AreFourAndRest octets front rest → length rest ≡ k
+    → first_digits (length octets) (map inner_digit octets) ≡ first_digits (4 + k) (map inner_digit (firsts 4 (nth front) ++ (firsts k (nth rest) ++ drop k rest)))
+number_of_all k octets front rest cut is =
+    let all : length octets ≡ 4 + k = omega (arith, cut.2, is) in
+    ap (λ n. first_digits n (map inner_digit octets)) all ∙ number_of_parts k octets front rest cut (omega (arith, is))
