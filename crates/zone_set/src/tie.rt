@@ -16,7 +16,8 @@ pub(crate) fn tie_order(octets: &[u8], a: usize, b: usize) -> Ordering {
     };
     match owner_order(x.owner, y.owner) {
         Ordering::Equal if x.kind == y.kind => match octet_order(x.data, y.data) {
-            Ordering::Equal => ttl_order(octets, a, b),
+            // Repeats of two TTLs that take turns must come to stand together.
+            Ordering::Equal => x.ttl.cmp(&y.ttl),
             data => data,
         },
         Ordering::Equal => x.kind.cmp(&y.kind),
@@ -24,21 +25,10 @@ pub(crate) fn tie_order(octets: &[u8], a: usize, b: usize) -> Ordering {
     }
 }
 
-/// How the TTLs lie of records that stand at two places: repeats of two TTLs that take turns must
-/// come to stand together.
-fn ttl_order(octets: &[u8], a: usize, b: usize) -> Ordering {
-    match (
-        from(octets, a).first_chunk::<4>(),
-        from(octets, b).first_chunk::<4>(),
-    ) {
-        (Some(ttl), Some(other)) => u32::from_be_bytes(*ttl).cmp(&u32::from_be_bytes(*other)),
-        _ => Ordering::Equal,
-    }
-}
-
 /// What is compared of a record.
 #[derive(Drop)]
 pub(crate) struct StoredParts<'z> {
+    ttl: u32,
     pub(crate) owner: &'z [u8],
     pub(crate) kind: u16,
     pub(crate) data: &'z [u8],
@@ -48,10 +38,11 @@ pub(crate) struct StoredParts<'z> {
 pub(crate) fn stored_at<'z>(octets: &'z [u8], at: usize) -> Option<StoredParts<'z>> {
     let (_, from) = octets.split_at_checked(at)?;
     let (head, from) = from.split_first_chunk::<9>()?;
-    let [_, _, _, _, k0, k1, owner_len, d0, d1] = *head;
+    let [t0, t1, t2, t3, k0, k1, owner_len, d0, d1] = *head;
     let (owner, from) = from.split_at_checked(owner_len as usize)?;
     let (data, _) = from.split_at_checked(u16::from_be_bytes([d0, d1]) as usize)?;
     Some(StoredParts {
+        ttl: u32::from_be_bytes([t0, t1, t2, t3]),
         owner,
         kind: u16::from_be_bytes([k0, k1]),
         data,
