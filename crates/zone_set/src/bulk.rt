@@ -7,7 +7,7 @@ ghost use Rattle.zone_set.specs.Machine.Bulk.{is_repeat, with_hint, AreNeighbour
 ghost use Rattle.zone_set.specs.Machine.Held.{all_records, entry_record, IsEntry};
 ghost use Rattle.zone_set.specs.Zone.{AreCompatible, SameRecords};
 
-use crate::ahead::{AHEAD, records_stand, run_stands};
+use crate::ahead::{AHEAD, ask_neighbours, ask_run};
 use crate::entry::Entry;
 use crate::hint::told_front;
 use crate::keys::{FEW, first_digit, first_run, sort_all, sort_by_hint, sort_run};
@@ -75,7 +75,7 @@ fn put_runs(class: Class, octets: &[u8], entries: &mut [Entry], front: usize) ->
     let (mut start, mut seen) = (0, 0usize);
     while let Some((hint, len)) = first_run(&entries[start..]) {
         if start >= seen {
-            if !records_stand(octets, &entries[start..]) {
+            if !ask_neighbours(octets, &entries[start..]) {
                 return false;
             }
             seen = start.saturating_add(AHEAD);
@@ -113,7 +113,7 @@ fn put_run(class: Class, octets: &[u8], entries: &mut [Entry], start: usize) -> 
 {
     let mut put = start;
     while put < entries.len() {
-        if (entries.len() - put) % AHEAD == 0 && !run_stands(octets, &entries[put..]) {
+        if (entries.len() - put) % AHEAD == 0 && !ask_run(octets, &entries[put..]) {
             return false;
         }
         put += 1;
@@ -164,7 +164,7 @@ pub(crate) fn are_neighbours(class: Class, octets: &[u8], entries: &[Entry]) -> 
     };
     let (mut last, mut left) = (*first, rest);
     while let Some((next, after)) = left.split_first() {
-        if left.len() % AHEAD == 0 && !run_stands(octets, left) {
+        if left.len() % AHEAD == 0 && !ask_run(octets, left) {
             return false;
         }
         if standing(class, octets, last, *next) != Some(Ordering::Less) {

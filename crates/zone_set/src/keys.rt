@@ -2,7 +2,7 @@ ghost use Rattle.std.specs.Prelude.{◌≡◌, ◌<◌, ◌≤◌, [], length, m
 ghost use Rattle.std.specs.List.Sorted.{IsPermutation};
 ghost use Rattle.zone_set.specs.Machine.Bulk.{with_hint};
 
-use crate::ahead::{AHEAD, run_stands};
+use crate::ahead::{AHEAD, ask_run};
 use crate::entry::Entry;
 use crate::hint::first_untold;
 use crate::owner::{first_label, past_far, shared_end};
@@ -144,7 +144,7 @@ fn set_keys(run: &mut [Entry], octets: &[u8], front: usize, digit: usize)
 {
     let mut next = 0;
     while next < run.len() {
-        if next % AHEAD == 0 && !run_stands(octets, &run[next..]) {
+        if next % AHEAD == 0 && !ask_run(octets, &run[next..]) {
             return;
         }
         run[next].hint = key_of(octets, run[next].at, front, digit);

@@ -2,7 +2,7 @@ ghost use Rattle.std.specs.Prelude.{◌≡◌, ◌≤◌, ◌++◌, [], drop, le
 ghost use Rattle.std.specs.List.{AllByRecursion};
 ghost use Rattle.zone_set.specs.Machine.Held.{all_records, IsLinked, IsSeen, seen_record};
 
-use crate::ahead::{AHEAD, rest_stands};
+use crate::ahead::{AHEAD, ask_end};
 use crate::entry::Entry;
 use crate::stored::{Head, head_at, record_after};
 use arrayvec::ArrayVec;
@@ -103,7 +103,7 @@ fn read_ahead(
             break;
         };
         heads.push(head_at(octets, entry.at));
-        if !rest_stands(octets, entry.at) {
+        if !ask_end(octets, entry.at) {
             break;
         }
     }

@@ -13,8 +13,8 @@ loop-hint-init g c = (
   tt,
 )
 
-pub returns-then-not-records_stand-clause-moved : goal.returns-then-not-records_stand-clause-moved
-returns-then-not-records_stand-clause-moved g c = IsPermutation-trans _ _ _ c.sort_by_hint.ensures c.loop-hint.invariant.2
+pub returns-then-not-ask_neighbours-clause-moved : goal.returns-then-not-ask_neighbours-clause-moved
+returns-then-not-ask_neighbours-clause-moved g c = IsPermutation-trans _ _ _ c.sort_by_hint.ensures c.loop-hint.invariant.2
 
 pub put_run-requires : goal.put_run-requires
 put_run-requires g c =
