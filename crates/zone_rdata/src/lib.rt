@@ -19,7 +19,6 @@ pub mod laws;
 mod layout;
 mod lent;
 mod limits;
-mod minimum;
 mod narrow_failing;
 mod number;
 mod order;
