@@ -58,6 +58,7 @@ pub use rdata::Rdata;
 pub use reading::is_generic;
 pub use record::{MAX_TTL, Placed, Rr};
 pub use rr_source::{LendingSource, Reading, RrSource};
+pub use stop_text::line_of_refusal;
 pub use string::{push_string, push_string_text};
 pub use table::{Row, row_of};
 pub use time::seconds_of;
