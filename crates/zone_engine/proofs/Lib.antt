@@ -8,4 +8,3 @@ pub mod Headline
 pub mod Feeding
 pub mod Lines
 pub mod InMemory
-pub mod RefusalPieces

@@ -4,9 +4,8 @@ ghost use Rattle.zone_print.specs.Device.{WorksOn};
 ghost use Rattle.zone_print.specs.Writing.{IsFailedWrite};
 ghost use Rattle.zone_engine.specs.Telling.{refusal_line, TellsLine, WritesLine, WritesPartOfLine};
 
-use crate::refusal::line_of;
 use zone_print::{OctetWriter, write_octets};
-use zone_rdata::{Fault, Place, Stop};
+use zone_rdata::{Fault, Place, Stop, line_of_refusal};
 
 /// Writes these words, the line and a line feed. Every error of the writer ends it, `Interrupted`
 /// too, and it isn't flushed.
@@ -44,7 +43,7 @@ pub fn write_refusal<W: OctetWriter>(
     ensures works { OnOk result (WorksOn (W.state writer.old) (W.state writer.new)) }
     ensures failed { IfErr result (IsFailedWrite (W.state writer.old) (W.state writer.new)) }
 {
-    let line = line_of(fault, place);
+    let line = line_of_refusal(fault, place);
     write_octet_line(writer, words.as_bytes(), line.as_slice())
 }
 

@@ -2,6 +2,7 @@
 pub mod Building
 pub mod Bytes
 pub mod Each
+pub mod LastNumber
 pub mod Layouts
 pub mod Sent
 pub mod StringFields

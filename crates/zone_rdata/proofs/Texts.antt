@@ -5,3 +5,4 @@ pub mod TextItems
 pub mod DigitLanes
 pub mod TextLengths
 pub mod FieldTexts
+pub mod StopTexts

@@ -5,7 +5,6 @@ ghost use Rattle.zone_rdata.specs.Fault.{IfFault};
 ghost use Rattle.zone_name.specs.Sink.{TakesSome};
 ghost use Rattle.zone_rdata.specs.Item.{raw};
 ghost use Rattle.zone_rdata.specs.Layout.{IsSized};
-ghost use Rattle.zone_rdata.specs.Minimum.{number_in};
 ghost use Rattle.zone_rdata.specs.Machine.Appending.{AppendsFirst};
 ghost use Rattle.zone_rdata.specs.Machine.Printing.{BeginsWithField, after_field};
 ghost use Rattle.zone_rdata.specs.Machine.Appending.{AppendsValue, BeginsWithNone};
@@ -32,7 +31,7 @@ use prefix::push_prefix;
 use string::{push_sent_string, split_string};
 use strings::{push_sent_strings, push_strings, push_strings_text};
 use time::push_time;
-use zone_name::{Name, NameRef, Sink};
+use zone_name::{Name, Sink};
 
 /// A field of record data (RFC 1035 3.3).
 #[derive(Clone, Copy, Debug, PartialEq, Eq)]
@@ -111,33 +110,6 @@ impl Field {
             Field::Octets(count) => push_prefix(count, octets, canonical),
             Field::OneString => push_sent_string(octets, canonical),
             Field::Strings => push_sent_strings(octets, canonical),
-        }
-    }
-
-    /// The octets after the field at the beginning of octets.
-    #[tactic(auto, using(crate::proofs::Octets::StringFields::nothing_after))]
-    pub(crate) fn after(self, octets: &[u8]) -> &[u8]
-        requires { BeginsWithField self octets.now }
-        ensures { result.now ≡ after_field self octets.now }
-    {
-        match self {
-            Field::Name => NameRef::split_front(octets).1,
-            Field::Serial | Field::Time => split_u32(octets).1,
-            Field::U16 => split_u16(octets).1,
-            Field::Octets(count) => octets.split_at(count).1,
-            Field::OneString => split_string(octets).1,
-            Field::Strings => octets.split_at(octets.len()).1,
-        }
-    }
-
-    /// The field at the beginning of octets, if it is a number of 32 bits.
-    pub(crate) fn number_at(self, octets: &[u8]) -> Option<u32>
-        requires { BeginsWithField self octets.now }
-        ensures { result ≡ number_in (field_at self octets.now) }
-    {
-        match self {
-            Field::Serial | Field::Time => Some(split_u32(octets).0),
-            _ => None,
         }
     }
 

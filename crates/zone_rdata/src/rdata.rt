@@ -21,7 +21,6 @@ use crate::laws::items::{data_is_unique, faulty_items_state_none};
 use crate::layout::{Layout, layout_of};
 use crate::lent::RdataRef;
 use crate::limits::LONGEST_DATA;
-use crate::minimum::last_number_of;
 use crate::narrow_failing::NarrowFailing;
 use crate::printing::push_data;
 use crate::reading::{is_generic, read_words};
@@ -271,13 +270,14 @@ impl Rdata {
     }
 
     /// The MINIMUM of an SOA, in seconds (RFC 1035 3.3.13). `None`: the data is of another type.
+    #[tactic(auto, using(crate::proofs::Octets::LastNumber::last_of_soa))]
     pub fn soa_minimum(&self) -> Option<u32>
         ensures { result ≡ minimum self.now }
     {
         if !self.kind.is_soa() {
             return None;
         }
-        last_number_of(layout_of(self.class, self.kind)?, &self.octets)
+        Some(u32::from_be_bytes(*self.octets.last_chunk::<4>()?))
     }
 
     /// Appends the canonical text. Where memory is refused, `out` is unchanged.

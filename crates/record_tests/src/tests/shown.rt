@@ -1,8 +1,8 @@
 //! What `{}` shows of names, classes, types, data and records, and of what stops a call.
 use std::alloc::Global;
 use std::test::Fail;
-use test_support::{Question, check_lines, check_same, push_words, rooted};
-use zone_rdata::{Failing, Fault, Place, Stop};
+use test_support::{Question, check_lines, check_octets, check_same, push_words, rooted};
+use zone_rdata::{Failing, Fault, Place, Stop, line_of_refusal};
 use zone_text::read_file;
 
 /// The record of a master file under the origin `x.`, it borrowed, and its owner, class, type and
@@ -57,6 +57,10 @@ fn stops_are_shown(rt: HostRuntime) -> Result<(), Fail> {
     ] {
         let shown = format!(in rt.alloc(); "{stop}")?;
         check_same("the line of a stop", shown.as_str(), line)?;
+        if let Stop::Refused(fault, place) = &stop {
+            let told = line_of_refusal(fault, *place);
+            check_octets("the line of a refusal", told.as_slice(), line.as_bytes())?;
+        }
     }
     Ok(())
 }
