@@ -1,5 +1,5 @@
 -- The line of a record in a canonical text states its class and is its own rewriting.
-use Rattle.zone_text.proofs.Common.{AllByRecursion, Cut, Entry, List, None, Parts, Record, Some, StatesWhole, Word, [], and_last, ap, append-nil, begins_with_digit, class, class_among, class_word, cut_from, entry_of, if◌then◌else◌, is_class_word, parts_after, parts_in, refl, statement_of, subst, sym, text, true, false, ttl, unless_stated, zero, ℕ, ◌++◌, ◌∙◌, ◌∷◌, ◌≡◌, Bool, arith, option_and_then}
+use Rattle.zone_text.proofs.Common.{AllByRecursion, Cut, Entry, List, Parts, Record, Some, StatesWhole, [], and_last, ap, append-nil, class, class_among, class_word, cut_from, entry_of, parts_in, refl, statement_of, subst, sym, text, ttl, zero, ℕ, ◌++◌, ◌∙◌, ◌∷◌, ◌≡◌, option_and_then}
 use Rattle.std.specs.Prelude.{IsSome, map}
 use Rattle.zone_print.proofs.Feeds.{line_ends_with_feed}
 use Rattle.zone_print.specs.Canonical.{line, lines}
@@ -8,8 +8,7 @@ use Rattle.zone_rdata.specs.Item.{IsGeneric, RawItem}
 use Rattle.zone_rdata.specs.Item as raw
 use Rattle.zone_rdata.specs.Record.{IsRecord}
 use Rattle.zone_text.proofs.Heads.ClassWords.{class_word_first, class_word_known, time_first}
-use Rattle.zone_text.proofs.Entries.Lines.{whole_form}
-use Rattle.zone_text.proofs.Heads.WordsLeft.{next_part}
+use Rattle.zone_text.proofs.Entries.Lines.{whole_form, whole_parts}
 use Rattle.zone_words.proofs.Registered.{generic_data, no_mnemonic}
 use Rattle.zone_words.specs.Data.{joined}
 use Rattle.zone_words.specs.DataItem.{TouchingItem, items_of}
@@ -22,15 +21,9 @@ use Rattle.words_print.specs.Shown.{IsRecordLine, IsShownText}
 
 -- ---- its class
 
-third_by : (a b : Bool) (s t : List ℕ) (v w : Word) → (if a then unless_stated (Some s) v else if b then unless_stated (Some t) w else None) ≡ None
-third_by a b s t v w = grind arith
-
-line_parts : (ttl_word class_word kind_word : List ℕ) (items : List RawItem) → begins_with_digit ttl_word ≡ true → begins_with_digit class_word ≡ false → is_class_word class_word ≡ true → parts_after [] (raw.bare ttl_word ∷ raw.bare class_word ∷ raw.bare kind_word ∷ items) ≡ record { words = ttl ttl_word ∷ class class_word ∷ []; rest = raw.bare kind_word ∷ items }
-line_parts ttl_word class_word kind_word items is_ttl no_ttl is_class = cc (next_part [] (raw.bare ttl_word) (raw.bare class_word ∷ raw.bare kind_word ∷ items) (Some (ttl ttl_word)) (rw is_ttl refl), next_part (ttl ttl_word ∷ []) (raw.bare class_word) (raw.bare kind_word ∷ items) (Some (class class_word)) (rw (no_ttl, is_class) refl), next_part (ttl ttl_word ∷ class class_word ∷ []) (raw.bare kind_word) items None (third_by (begins_with_digit kind_word) (is_class_word kind_word) ttl_word class_word (ttl kind_word) (class kind_word)))
-
 -- the parts of the entry
 whole_split : (entry : Entry) (r : Record) (s : StatesWhole entry r) → parts_in (statement_of entry) ≡ Some (record { words = ttl s.ttl_text ∷ class s.class_word ∷ []; rest = raw.bare s.kind_word ∷ s.items })
-whole_split entry r s = ap parts_in (whole_form entry r s) ∙ ap Some (line_parts s.ttl_text s.class_word s.kind_word s.items (time_first _ _ s.ttl) (class_word_first _ _ s.class) (class_word_known _ _ s.class))
+whole_split entry r s = ap parts_in (whole_form entry r s) ∙ ap Some (whole_parts s.ttl_text s.class_word s.kind_word s.items (time_first _ _ s.ttl) (class_word_first _ _ s.class) (class_word_known _ _ s.class))
 
 whole_class : (entry : Entry) (r : Record) → StatesWhole entry r → IsSome (class_word (statement_of entry))
 whole_class entry r s =

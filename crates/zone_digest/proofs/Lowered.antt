@@ -1,7 +1,6 @@
 -- Data has a form with its names in lower case.
 use Rattle.zone_rdata.proofs.Common.{[], ◌≡◌, ℕ, ◌+◌, ◌<◌, ◌≤◌, List, ◌∷◌, ◌++◌, length, take, drop, refl, sym, ap, subst, arith, flat_map, map}
-use Rattle.std.proofs.Common.{Bool, true, false, suc, zero, Option, None, Some, inl, inr, ◌⊎◌, length-append}
-use Rattle.std.specs.Bool.{Decides}
+use Rattle.std.proofs.Common.{Bool, true, false, suc, zero, Option, None, Some, inl, inr, length-append}
 use Rattle.std.specs.Prelude.{nat_le}
 use Rattle.std.proofs.lemmas.List.{length-drop}
 use Rattle.zone_name.specs.Common.{AreOctets, Labels}
@@ -11,13 +10,7 @@ use Rattle.zone_digest.specs.Machine.Front.{BeginsWithCased, BeginsWithMany}
 use Rattle.zone_digest.specs.NamesInData.{HasNames, IsLowered, with_names, with_none}
 use Rattle.zone_digest.specs.declared.table.NamesAt.{NamesAt}
 use Rattle.zone_digest.proofs.Walks.{HasPassed, found, many_more, next_fits, no_first, no_more, no_names, none_yet, not_whole, passed_more, whole}
-
--- something is so, or nothing is
-abbrev pub Settled : Type 0 → Type 0
-Settled P = P ⊎ (P → ⊥)
-
-pub settled_by : {P : Type 0} (b : Bool) → Decides b P → Settled P
-settled_by b decides = grind arith
+use Rattle.zone_rdata.proofs.Choices.{Decided}
 
 abbrev IsOctet : ℕ → Type 0
 IsOctet c = c < 256
@@ -27,20 +20,20 @@ abbrev HasName : List ℕ → Type 0
 HasName octets = (name : Labels) × (rest : List ℕ) × BeginsWithCased octets name rest
 
 -- where a label begins, the tests of its length tell
-name_by : (octets following : List ℕ) (len c : ℕ) → HasPassed octets (suc c ∷ following) len → ((suc c ≤ 63) → (suc c ≤ length following) → (len + (suc c + 1) ≤ 255) → Settled (HasName octets))
-    → (x y z : Bool) → nat_le (suc c) 63 ≡ x → nat_le (suc c) (length following) ≡ y → nat_le (len + (suc c + 1)) 255 ≡ z → Settled (HasName octets)
+name_by : (octets following : List ℕ) (len c : ℕ) → HasPassed octets (suc c ∷ following) len → ((suc c ≤ 63) → (suc c ≤ length following) → (len + (suc c + 1) ≤ 255) → Decided (HasName octets))
+    → (x y z : Bool) → nat_le (suc c) 63 ≡ x → nat_le (suc c) (length following) ≡ y → nat_le (len + (suc c + 1)) 255 ≡ z → Decided (HasName octets)
 name_by octets following len c p on x y z is_x is_y is_z = by x y z is_x is_y is_z
   where
     fits : (name : Labels) (tail : List ℕ) → BeginsWithCased octets name tail → (suc c ≤ 63) × (len + (suc c + 1) ≤ 255) × (suc c ≤ length following)
     fits name tail b = next_fits octets (suc c ∷ following) len (suc c) following p refl (omega arith) name tail b
 
-    by : (x y z : Bool) → nat_le (suc c) 63 ≡ x → nat_le (suc c) (length following) ≡ y → nat_le (len + (suc c + 1)) 255 ≡ z → Settled (HasName octets)
+    by : (x y z : Bool) → nat_le (suc c) 63 ≡ x → nat_le (suc c) (length following) ≡ y → nat_le (len + (suc c + 1)) 255 ≡ z → Decided (HasName octets)
     by false y z is_x is_y is_z = inr (λ h. let f = fits h.0 h.1 h.2 in grind (arith, f.0, is_x))
     by true false z is_x is_y is_z = inr (λ h. let f = fits h.0 h.1 h.2 in grind (arith, f.2, is_y))
     by true true false is_x is_y is_z = inr (λ h. let f = fits h.0 h.1 h.2 in grind (arith, f.1, is_z))
     by true true true is_x is_y is_z = on (grind (arith, is_x)) (grind (arith, is_y)) (grind (arith, is_z))
 
-name_from : (n : ℕ) (octets rest : List ℕ) (len : ℕ) → AreOctets octets → HasPassed octets rest len → len ≤ 255 → length rest ≤ n → Settled (HasName octets)
+name_from : (n : ℕ) (octets rest : List ℕ) (len : ℕ) → AreOctets octets → HasPassed octets rest len → len ≤ 255 → length rest ≤ n → Decided (HasName octets)
 name_from n octets [] len each p short few = inr (λ h. no_first octets [] len p refl h.0 h.1 h.2)
 name_from n octets (zero ∷ following) len each p short few = inl (p.labels, following, found octets (0 ∷ following) len following p refl short)
 name_from zero octets (suc c ∷ following) len each p short few = absurd (omega (arith, few))
@@ -50,32 +43,32 @@ name_from (suc n) octets (suc c ∷ following) len each p short few =
     three (omega (arith, length-drop (suc c) following, few)))
     _ _ _ refl refl refl
 
-name_at : (octets : List ℕ) → AreOctets octets → Settled (HasName octets)
+name_at : (octets : List ℕ) → AreOctets octets → Decided (HasName octets)
 name_at octets each = name_from (length octets) octets octets 1 each (record { labels = []; each = tt; parts = refl; len = refl }) (omega arith) (omega arith)
 
 -- ---- many names
 abbrev HasMany : ℕ → List ℕ → Type 0
 HasMany count octets = (len : ℕ) × BeginsWithMany count octets len
 
-many_next : (i count : ℕ) (octets : List ℕ) (len : ℕ) → i < count → BeginsWithMany i octets len → ((name : Labels) (rest : List ℕ) → BeginsWithCased (drop len octets) name rest → Settled (HasMany count octets)) → Settled (HasName (drop len octets)) → Settled (HasMany count octets)
+many_next : (i count : ℕ) (octets : List ℕ) (len : ℕ) → i < count → BeginsWithMany i octets len → ((name : Labels) (rest : List ℕ) → BeginsWithCased (drop len octets) name rest → Decided (HasMany count octets)) → Decided (HasName (drop len octets)) → Decided (HasMany count octets)
 many_next i count octets len less p on (inl (name, rest, b)) = on name rest b
 many_next i count octets len less p on (inr none) = inr (λ m. no_more i count octets (drop len octets) len p less refl (λ name rest b. none (name, rest, b)) m.0 m.1)
 
-many_from : (left i count : ℕ) (octets : List ℕ) (len : ℕ) → AreOctets octets → i + left ≡ count → BeginsWithMany i octets len → Settled (HasMany count octets)
+many_from : (left i count : ℕ) (octets : List ℕ) (len : ℕ) → AreOctets octets → i + left ≡ count → BeginsWithMany i octets len → Decided (HasMany count octets)
 many_from zero i count octets len each as_many p = inl (len, subst (λ k. BeginsWithMany k octets len) (omega (arith, as_many)) p)
 many_from (suc left) i count octets len each as_many p =
     many_next i count octets len (omega (arith, as_many)) p
     (λ name rest b. many_from left (i + 1) count octets (len + length (wire name)) each (omega (arith, as_many)) (many_more i octets (drop len octets) len (length (wire name)) (len + length (wire name)) p refl name rest b refl refl))
     (name_at (drop len octets) (each_drop IsOctet len octets each))
 
-many_at : (count : ℕ) (octets : List ℕ) → AreOctets octets → Settled (HasMany count octets)
+many_at : (count : ℕ) (octets : List ℕ) → AreOctets octets → Decided (HasMany count octets)
 many_at count octets each = many_from count 0 count octets 0 each (omega arith) (none_yet octets 0 refl)
 
 -- ---- data
 too_short : (at : NamesAt) (octets front : List ℕ) (names : List Labels) (rest : List ℕ) → HasNames at octets front names rest → at.before ≤ length octets
 too_short at octets front names rest h = omega (arith, ap length h.parts, length-append front (flat_map wire names ++ rest), h.before)
 
-may_end : (more : Bool) (after : List ℕ) → Settled (more ≡ false → after ≡ [])
+may_end : (more : Bool) (after : List ℕ) → Decided (more ≡ false → after ≡ [])
 may_end true after = inl (λ bad. absurd (let no : true ≡ false = bad in cc))
 may_end false [] = inl (λ is. refl)
 may_end false (c ∷ after) = inr (λ never. let bad : c ∷ after ≡ [] = never refl in cc)
@@ -90,14 +83,14 @@ low_of (Some at) octets each = by_room (nat_le at.before (length octets)) refl
     as_is : ((place : NamesAt) (front : List ℕ) (names : List Labels) (rest : List ℕ) → Some at ≡ Some place → HasNames place octets front names rest → ⊥) → HasLow (Some at) octets
     as_is none = (octets, with_none none refl)
 
-    by_end : at.before ≤ length octets → (len : ℕ) (p : BeginsWithMany at.count (drop at.before octets) len) → Settled (at.more ≡ false → drop len (drop at.before octets) ≡ []) → HasLow (Some at) octets
+    by_end : at.before ≤ length octets → (len : ℕ) (p : BeginsWithMany at.count (drop at.before octets) len) → Decided (at.more ≡ false → drop len (drop at.before octets) ≡ []) → HasLow (Some at) octets
     by_end room len p (inl ends) =
         let after = drop len (drop at.before octets) in
         let h = whole at octets (take at.before octets) (drop at.before octets) (take len (drop at.before octets)) after len refl refl room p refl refl ends in
         (take at.before octets ++ (flat_map wire (map folded p.names) ++ after), with_names at (take at.before octets) p.names after refl h.0 refl)
     by_end room len p (inr never) = as_is (not_whole at (Some at) octets (drop at.before octets) (drop len (drop at.before octets)) len refl refl p refl never)
 
-    by_names : at.before ≤ length octets → Settled (HasMany at.count (drop at.before octets)) → HasLow (Some at) octets
+    by_names : at.before ≤ length octets → Decided (HasMany at.count (drop at.before octets)) → HasLow (Some at) octets
     by_names room (inl (len, p)) = by_end room len p (may_end at.more (drop len (drop at.before octets)))
     by_names room (inr none) = as_is (no_names at (Some at) octets (drop at.before octets) refl refl (λ len p. none (len, p)))
 

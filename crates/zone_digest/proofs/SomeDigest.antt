@@ -11,29 +11,20 @@ use Rattle.zone_digest.specs.Digest.{AscendsByOwner, digest_cmp, hashed, IsDiges
 use Rattle.zone_digest.specs.NamesInData.{names_of}
 use Rattle.zone_digest.specs.declared.algorithm.Algorithm.{Algorithm}
 use Rattle.zone_digest.specs.declared.algorithm.ZoneDigest.{ZoneDigest}
-use Rattle.zone_digest.proofs.Lowered.{low_of, Settled, settled_by}
+use Rattle.zone_digest.proofs.Lowered.{low_of}
 use Rattle.zone_digest.proofs.Putting.{put}
 use Rattle.zone_digest.proofs.SameDigest.{one_form}
 use Rattle.zone_digest.proofs.SetOrder.{same_covers}
 use Rattle.zone_digest.proofs.Sets.{lower_as, record_same}
 use Rattle.zone_digest.proofs.Soa.{digest_total}
+use Rattle.zone_rdata.proofs.Choices.{Decided, both_or_not, either_or_not, tested_or_not}
 
 -- ---- a record that is left out
-both : {P Q : Type 0} → Settled P → Settled Q → Settled (P × Q)
-both (inl p) (inl q) = inl (p, q)
-both (inl p) (inr never) = inr (λ pair. never pair.1)
-both (inr never) q = inr (λ pair. never pair.0)
-
-either : {P Q : Type 0} → Settled P → Settled Q → Settled (P ⊎ Q)
-either (inl p) q = inl (inl p)
-either (inr never) (inl q) = inl (inr q)
-either (inr never) (inr nor) = inr (λ any. ⊎_elim never nor any)
-
-left_out : (apex : Labels) (r : Record) → Settled (IsLeftOut apex r)
+left_out : (apex : Labels) (r : Record) → Decided (IsLeftOut apex r)
 left_out apex r =
-    both (settled_by _ (pointwise_decides bytes_decides r.owner apex))
-    (either (settled_by _ (Decides-eqb r.kind 63))
-    (both (settled_by _ (Decides-eqb r.kind 46)) (settled_by _ (bytes_decides (take 2 r.octets) (0 ∷ 63 ∷ [])))))
+    both_or_not (tested_or_not _ (pointwise_decides bytes_decides r.owner apex))
+    (either_or_not (tested_or_not _ (Decides-eqb r.kind 63))
+    (both_or_not (tested_or_not _ (Decides-eqb r.kind 46)) (tested_or_not _ (bytes_decides (take 2 r.octets) (0 ∷ 63 ∷ [])))))
 
 -- ---- the canonical forms
 form_of : (r : Record) → IsRecord r → (low : Record) × IsLoweredRecord r low
@@ -98,7 +89,7 @@ module _ (z : Zone) (is : IsZone z) where
       back s (r, inl e, kept, low) = absurd (kept (subst (IsLeftOut z.apex) (sym e) out))
       back s (r, inr h, kept, low) = (same s).1 (r, h, kept, low)
 
-  forms_by : (x : Record) (rs lower : List Record) → Has z.records x → ((r : Record) → Has rs r → Has z.records r) → AreFormsOf rs lower → Settled (IsLeftOut z.apex x) → (new : List Record) × AreFormsOf (x ∷ rs) new
+  forms_by : (x : Record) (rs lower : List Record) → Has z.records x → ((r : Record) → Has rs r → Has z.records r) → AreFormsOf rs lower → Decided (IsLeftOut z.apex x) → (new : List Record) × AreFormsOf (x ∷ rs) new
   forms_by x rs lower has among forms (inl out) = (lower, none_more x rs lower out forms)
   forms_by x rs lower has among forms (inr kept) = one_more x rs lower has among kept forms
 

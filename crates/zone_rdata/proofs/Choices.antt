@@ -3,12 +3,25 @@ use Rattle.std.proofs.Common.{[], ◌≡◌, ℕ, ◌<◌, Bool, true, List, ◌
 use Rattle.std.proofs.lemmas.Bool.{cases_lt}
 use Rattle.std.specs.List.{AllByRecursion}
 use Rattle.std.specs.Prelude.{IfNone, IfSome}
+use Rattle.std.specs.Bool.{Decides}
 
 abbrev pub Decided : Type 0 → Type 0
 Decided P = P ⊎ (P → ⊥)
 
 pub true_or_not : (b : Bool) → Decided (b ≡ true)
 true_or_not b = grind arith
+
+pub tested_or_not : {P : Type 0} (b : Bool) → Decides b P → Decided P
+tested_or_not b decides = grind arith
+
+pub denied_or_not : {P : Type 0} → Decided P → Decided (P → ⊥)
+denied_or_not is = grind arith
+
+pub both_or_not : {P Q : Type 0} → Decided P → Decided Q → Decided (P × Q)
+both_or_not p q = grind arith
+
+pub either_or_not : {P Q : Type 0} → Decided P → Decided Q → Decided (P ⊎ Q)
+either_or_not p q = grind arith
 
 pub each_or_not : {X : Type 0} (P : X → Type 0) → ((x : X) → Decided (P x)) → (xs : List X) → Decided (AllByRecursion P xs)
 each_or_not P one [] = inl tt

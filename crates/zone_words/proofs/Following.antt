@@ -1,16 +1,11 @@
 -- What an entry leaves to those after it.
-use Rattle.zone_words.proofs.Common.{Bool, Entry, Inherited, IsCasedOrigin, IsInherited, IsInternetAfter, IsOneOrNone, Item, Labels, List, MatchOption, NamesOrigin, None, Option, Parts, RawItem, Some, SpellsCased, [], ap, arith, class_among, class_word, latest, length, map, option_map, option_or, origin_items, raw, refl, sets_origin, statement_of, subst, sym, true, ℕ, ◌<◌, ◌∙◌, ◌∷◌, ◌≡◌}
+use Rattle.zone_words.proofs.Common.{Bool, Entry, Inherited, IsCasedOrigin, IsInherited, IsInternetAfter, IsOneOrNone, Item, Labels, List, NamesOrigin, None, Option, Parts, RawItem, Some, SpellsCased, [], ap, arith, class_among, class_word, latest, length, map, option_map, option_or, origin_items, raw, refl, sets_origin, statement_of, subst, sym, true, ℕ, ◌<◌, ◌∙◌, ◌∷◌, ◌≡◌}
 use Rattle.zone_rdata.specs.Item.{bare}
 use Rattle.zone_text.specs.declared.parts.RecordParts.{RecordParts}
 use Rattle.zone_words.proofs.Turns.{no_origin}
 use Rattle.zone_words.specs.Machine.Further.{HasParts}
 use Rattle.std.specs.Prelude.{option_and_then}
-
--- the origin after an entry, where it is a `$ORIGIN` with these items
-abbrev OriginAfter : Labels → List Entry → Option (List RawItem) → Labels → Type 0
-OriginAfter origin before items name =
-    MatchOption items (IsCasedOrigin origin before name)
-    (λ stated. (above : Labels) × IsCasedOrigin origin before above × NamesOrigin above stated name)
+use Rattle.zone_words.proofs.Origins.{OriginAfter}
 
 class_next : (word last : Option (List ℕ)) (was is : Bool) → IsInternetAfter last true was → IsInternetAfter word was is → IsInternetAfter (option_or word last) true is
 class_next None None was is before after = after ∙ before

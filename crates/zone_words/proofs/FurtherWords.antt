@@ -1,8 +1,9 @@
 -- Words of further types: each is that of one type at most.
-use Rattle.zone_words.proofs.Common.{Bool, FurtherType, IfNone, IfSome, IsCapped, IsFurtherWord, IsWordAmong, List, Named, None, NothingIs, Option, Some, ap, arith, by_mnemonic, by_number, codes, eqb-true, find_mapped, folded_label, found_each, found_passes, further_names, further_of, further_type, further_types, is_number, mnemonic_among, nat_lt, nat_tests, option_copied, option_map, own_numbers, refl, registered_types, subst, sym, true, unlike, word_once, ℕ, ◌<◌, ◌==◌, ◌∙◌, ◌≡◌}
+use Rattle.zone_words.proofs.Common.{Bool, FurtherType, IfNone, IfSome, IsCapped, IsFurtherWord, IsWordAmong, List, Named, None, NothingIs, Option, Some, ap, arith, by_mnemonic, by_number, codes, eqb-true, find_mapped, folded_label, found_each, found_passes, further_names, further_of, further_type, further_types, is_number, mnemonic_among, nat_lt, nat_tests, option_copied, option_map, own_numbers, refl, subst, sym, true, unlike, word_once, ℕ, ◌<◌, ◌==◌, ◌∙◌, ◌≡◌}
 use Rattle.std.proofs.Common.{Bor}
 use Rattle.zone_words.proofs.Registered.{IsRegistered, registered_further, registered_name}
 use Rattle.zone_words.specs.declared.table.FurtherType as code
+use Rattle.zone_words.proofs.TypeWords.{word_of_type_once}
 
 abbrev pub IsWord : List ℕ → ℕ → Type 0
 IsWord word n = IsWordAmong further_names (codes "TYPE") word n
@@ -10,10 +11,6 @@ IsWord word n = IsWordAmong further_names (codes "TYPE") word n
 pub further_number_once : (word : List ℕ) (m n : ℕ) → IsWord word m → IsWord word n → m ≡ n
 unfolding is_number own_numbers unlike
 further_number_once word = word_once further_names (codes "TYPE") refl refl word
-
-registered_once : (word : List ℕ) (m n : ℕ) → IsRegistered word m → IsRegistered word n → m ≡ n
-unfolding is_number own_numbers unlike
-registered_once word = word_once registered_types (codes "TYPE") refl refl word
 
 -- a word is that of one further type at most
 pub further_word_once : (word : List ℕ) (a b : FurtherType) → IsFurtherWord word a → IsFurtherWord word b → a ≡ b
@@ -55,7 +52,7 @@ further_found word n (Some row) capped e = let own = numbered n (further_of row.
 no_row : (word : List ℕ) (n : ℕ) → IsCapped (IsRegistered word) n → further_type n ≡ None → NothingIs (IsFurtherWord word)
 no_row word n capped e f p =
     let own = numbered f.number f p.row in
-    let m_is : capped.0 ≡ f.number = registered_once word capped.0 f.number capped.1.0 (registered_further word f.number p.named) in
+    let m_is : capped.0 ≡ f.number = word_of_type_once word capped.0 f.number capped.1.0 (registered_further word f.number p.named) in
     let n_is : n ≡ f.number = let c = capped.1.1 in let b = own.1 in omega arith in
     let bad : Some f ≡ None = sym p.row ∙ ap further_type (sym n_is) ∙ e in
     cc bad

@@ -1,5 +1,5 @@
 -- An entry that is refused is none for the reader of plain master files.
-use Rattle.zone_words.proofs.Common.{AllByRecursion, Entry, IsFurtherWord, FurtherType, IsFurtherRecord, IsGeneric, IsKindWord, Labels, List, None, Option, Parts, RawItem, Refused, Some, Statement, Token, TokensFail, TouchingItem, ap, entry_of, owned, parts_in, statement_of, subst, sym, touching_items, true, unowned, includes, unknown, sets_origin, sets_ttl, written_text, ℕ, ◌∙◌, ◌∷◌, ◌≡◌}
+use Rattle.zone_words.proofs.Common.{AllByRecursion, Entry, IsFurtherWord, FurtherType, IsFurtherRecord, IsKindWord, Labels, List, None, Option, Parts, RawItem, Refused, Some, Statement, Token, TokensFail, TouchingItem, ap, entry_of, owned, parts_in, statement_of, subst, sym, touching_items, true, unowned, includes, unknown, sets_origin, sets_ttl, written_text, ℕ, ◌∙◌, ◌∷◌, ◌≡◌}
 use Rattle.zone_rdata.specs.Generic.{StatesGeneric}
 use Rattle.zone_rdata.specs.Layout.{layout}
 use Rattle.zone_rdata.specs.Record.{Record, data_of}
@@ -11,6 +11,7 @@ use Rattle.zone_text.specs.Statements.{no_items}
 use Rattle.zone_words.proofs.JoinedKinds.{further_kind, no_layout}
 use Rattle.zone_words.proofs.Turns.{fails_in_words, fails_under}
 use Rattle.zone_words.specs.DataItem.{items_of}
+use Rattle.zone_rdata.proofs.Items.ItemLaws.{generic_marks}
 
 -- data without a layout is stated in the generic form alone
 pub form_of : (origin : Labels) (class kind : ℕ) (items : List RawItem) (octets : List ℕ) → layout class kind ≡ None → States origin class kind items octets → StatesGeneric items octets
@@ -23,9 +24,6 @@ form_of origin class kind items octets none states = by_form (layout class kind)
     by_form : (laid : Option (List Field)) → laid ≡ None → StatesFor origin laid items octets → StatesGeneric items octets
     by_form laid e (in_words fields values is words each value short) = absurd (let bad : Some fields ≡ None = sym is ∙ e in cc bad)
     by_form laid e (in_octets form) = of_octets laid e form.0 form.1 form.2
-
-pub form_is_generic : (items : List RawItem) (octets : List ℕ) → StatesGeneric items octets → IsGeneric items
-form_is_generic items octets states = (states.form.item ∷ states.digits, states.form.parts)
 
 -- the words of an entry before its type, the type's word and the items after it
 pub record HasType (entry : Entry) (word : List ℕ) (items : List RawItem) (further : FurtherType) : Type 0 where
@@ -60,7 +58,7 @@ refused_record cased origin before after line tokens it r fail states =
     let d : List TouchingItem = touching_items true fail.back in
     let u = fails_under cased before (entry_of line tokens) (written_text fail.word) d it fail.fails in
     let read = form_read after origin (entry_of line tokens) (written_text fail.word) (items_of d) u.further r (type_in before (entry_of line tokens) (written_text fail.word) (items_of d) u.further u.is.stated) states.contents in
-    fails_in_words cased before (entry_of line tokens) (written_text fail.word) d it fail.fails (form_is_generic (items_of d) r.octets read.1)
+    fails_in_words cased before (entry_of line tokens) (written_text fail.word) d it fail.fails (generic_marks (items_of d) r.octets read.1)
 
 -- what has parts of a record doesn't state nothing
 pub parts_state : (origin : Labels) (after : List Entry) (form : Statement) (parts : Parts) → parts_in form ≡ Some parts → StatesNothing origin after form → ⊥

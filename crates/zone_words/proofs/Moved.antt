@@ -1,8 +1,9 @@
 -- Records that state their class become the same wherever they stand, where no `$ORIGIN` stands
 -- before them.
-use Rattle.zone_words.proofs.Common.{AllByRecursion, AllByRecursion-append, Anew, BecomesUnder, Entry, FurtherType, IsCasedOrigin, IsFurtherUnder, IsRefused, IsSome, Labels, List, MatchOption, NamesOrigin, None, Option, Outcome, RawItem, Refused, SaysAnew, Some, Statement, Token, TokensFail, TokensSay, TouchingItem, [], anew, class_word, count_by, entry_of, in_generic_form, includes, kept, latest, no_data, numbered, on_more_lines, option_or, origin_items, owned, refl, refused, reverse, reverse-append, sets_origin, sets_ttl, statement_of, subst, sym, text, too_many, unknown, unowned, ℕ, ◌++◌, ◌+◌, ◌==◌, ◌∷◌, ◌≡◌}
+use Rattle.zone_words.proofs.Common.{AllByRecursion, AllByRecursion-append, Anew, BecomesUnder, Entry, FurtherType, IsCasedOrigin, IsFurtherUnder, IsRefused, IsSome, Labels, List, MatchOption, None, Option, Outcome, RawItem, Refused, SaysAnew, Some, Statement, Token, TokensFail, TokensSay, TouchingItem, [], anew, class_word, count_by, entry_of, in_generic_form, includes, kept, latest, no_data, numbered, on_more_lines, option_or, origin_items, owned, refl, refused, reverse, reverse-append, sets_origin, sets_ttl, statement_of, subst, sym, text, too_many, unknown, unowned, ℕ, ◌++◌, ◌+◌, ◌==◌, ◌∷◌, ◌≡◌}
 use Rattle.zone_text.proofs.Common.{no_items}
 use Rattle.zone_words.specs.Entry.{in_words}
+use Rattle.zone_words.proofs.Origins.{OriginAfter}
 
 -- the entry is a record that states its class
 abbrev pub IsClassed : Entry → Type 0
@@ -16,12 +17,6 @@ form_sets_none includes some = refl
 form_sets_none unknown some = refl
 form_sets_none (owned owner items) some = refl
 form_sets_none (unowned items) some = refl
-
--- the origin after an entry, where it is a `$ORIGIN` with these items
-abbrev OriginAfter : Labels → List Entry → Option (List RawItem) → Labels → Type 0
-OriginAfter origin before items name =
-    MatchOption items (IsCasedOrigin origin before name)
-    (λ stated. (above : Labels) × IsCasedOrigin origin before above × NamesOrigin above stated name)
 
 origin_of : (origin name : Labels) (before : List Entry) → AllByRecursion IsClassed before → IsCasedOrigin origin before name → name ≡ origin
 origin_of origin name [] classed is = is

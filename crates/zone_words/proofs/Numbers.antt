@@ -1,9 +1,15 @@
 -- Numbers that are read, and their places in octets.
-use Rattle.zone_words.proofs.Common.{AppendsStated, IfNone, IfSome, IsCapped, IsDecimal, IsInOctets, List, None, NothingIs, NumberFails, Option, Some, Width, WordsFault, ap, arith, byte_len, refl, subst, sym, to_be_bytes, ℕ, ◌+◌, ◌<◌, ◌^◌, ◌∙◌, ◌≡◌, ◌≤◌}
+use Rattle.zone_words.proofs.Common.{AppendsStated, IfNone, IfSome, IsCapped, IsDecimal, IsInOctets, List, None, NothingIs, NumberFails, Option, Some, Width, WordsFault, ap, arith, byte_len, refl, subst, sym, to_be_bytes, w16, ℕ, ◌+◌, ◌<◌, ◌^◌, ◌∙◌, ◌≡◌, ◌≤◌}
 use Rattle.zone_words.specs.Kinds.Number.{no_number}
 use Rattle.zone_rdata.specs.Fields.Number.{IsNumber}
 use Rattle.zone_words.specs.Kinds.Number.{too_large}
 use Rattle.zone_words.specs.Machine.Numbers.{FailsToFit, Fits, IsOver}
+use Rattle.std.proofs.lemmas.Nat.{from_be_bytes-to_be_bytes_2}
+use Rattle.std.specs.Int.{from_be_bytes}
+
+-- two octets are those of one number
+pub number_once : (a b : ℕ) → a < 2 ^ 16 → b < 2 ^ 16 → to_be_bytes w16 a ≡ to_be_bytes w16 b → a ≡ b
+number_once a b low less e = sym (from_be_bytes-to_be_bytes_2 a low) ∙ ap (from_be_bytes w16) e ∙ from_be_bytes-to_be_bytes_2 b less
 
 -- what is no number of so many octets has no place in them
 pub over_fails : (w : Width) (most : ℕ) (number : Option ℕ) (fault : WordsFault) → most + 1 ≡ 256 ^ byte_len w → IsOver most number fault → FailsToFit w number fault

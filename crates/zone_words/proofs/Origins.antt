@@ -2,6 +2,12 @@
 use Rattle.zone_words.proofs.Common.{Entry, IsCasedOrigin, Labels, List, MatchOption, NamesOrigin, None, Option, RawItem, Some, SpellsCased-once, [], origin_items, statement_of, subst, sym, ◌∙◌, ◌∷◌, ◌≡◌}
 use Rattle.zone_rdata.specs.Item.{bare, quoted}
 
+-- the origin after an entry, where it is a `$ORIGIN` with these items
+abbrev pub OriginAfter : Labels → List Entry → Option (List RawItem) → Labels → Type 0
+OriginAfter origin before items name =
+    MatchOption items (IsCasedOrigin origin before name)
+    (λ stated. (above : Labels) × IsCasedOrigin origin before above × NamesOrigin above stated name)
+
 named_once : (above : Labels) (items : List RawItem) (a b : Labels) → NamesOrigin above items a → NamesOrigin above items b → a ≡ b
 named_once above [] a b x y = absurd x
 named_once above (bare text ∷ []) a b x y = SpellsCased-once (Some above) text a b x y

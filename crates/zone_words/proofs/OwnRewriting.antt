@@ -1,10 +1,11 @@
 -- A file without words of further types is its own rewriting.
-use Rattle.zone_words.proofs.Common.{AllByRecursion, AllByRecursion-back, AllByRecursion-front, Anew, BecomesUnder, Breaks, Cuts, EachBecomes, Entry, Fault, FurtherType, IsFurtherWord, IsRefused, IsRewriting, Labels, List, Outcome, Refused, SaysAnew, Token, TouchingItem, Written, [], and_last, ap, append-nil, append_assoc, broken, count_by, cut_from, cut_or_broken, cut_whole, entries_text, entry_of, flat_map, flat_map-append, in_generic_form, inl, inr, kept, map, no_data, on_more_lines, refl, subst, sym, text, text_of_entries, token_text, told_of, too_many, written_of, written_text, zero, ℕ, ◌++◌, ◌+◌, ◌==◌, ◌∙◌, ◌∷◌, ◌≡◌}
+use Rattle.zone_words.proofs.Common.{AllByRecursion, AllByRecursion-back, AllByRecursion-front, Anew, BecomesUnder, Breaks, Cuts, EachBecomes, Entry, Fault, FurtherType, IsFurtherWord, IsRefused, IsRewriting, Labels, List, Outcome, Refused, SaysAnew, Token, TouchingItem, Written, [], and_last, ap, append_assoc, broken, count_by, cut_from, cut_or_broken, cut_whole, entries_text, entry_of, flat_map, flat_map-append, in_generic_form, inl, inr, kept, map, no_data, on_more_lines, refl, subst, sym, text, text_of_entries, token_text, told_of, too_many, written_of, written_text, zero, ℕ, ◌++◌, ◌+◌, ◌==◌, ◌∙◌, ◌∷◌, ◌≡◌}
 use Rattle.zone_text.proofs.Common.{bare}
 use Rattle.zone_text.proofs.Tokens.CutAgain.{joined}
 use Rattle.zone_words.specs.Entry.{in_words}
 use Rattle.zone_words.specs.NoFurther.{HasNoFurtherWord, IsNoFurtherWord}
 use Rattle.zone_words.specs.Rewriting.{whole}
+use Rattle.zone_text.proofs.Files.Left.{and_last_joined}
 
 -- such tokens say nothing, and nothing is wrong with them
 said_word : (origin : Labels) (before : List Entry) (entry : Entry) (word : List ℕ) (d : List TouchingItem) (it : Anew) → SaysAnew origin before entry word d it → (f : FurtherType) × IsFurtherWord word f
@@ -42,14 +43,10 @@ told_nothing : (entries : List (List Token)) → [] ≡ told_of (map itself entr
 told_nothing [] = refl
 told_nothing (entry ∷ entries) = told_nothing entries
 
-last_joined : (ended : List (List Token)) (open_tokens : List Token) → joined (and_last ended open_tokens) ≡ joined ended ++ open_tokens
-last_joined ended [] = sym (append-nil (joined ended))
-last_joined ended (p ∷ tokens) = flat_map-append (λ (e : List Token). e) ended ((p ∷ tokens) ∷ []) ∙ ap (λ t. joined ended ++ t) (append-nil (p ∷ tokens))
-
 own_whole : (origin : Labels) (octets : List ℕ) (tokens : List Token) → AllByRecursion IsNoFurtherWord tokens → Cuts octets tokens → IsRewriting origin octets octets []
 own_whole origin octets tokens none cut =
     let entries : List (List Token) = and_last (cut_from zero tokens).ended (cut_from zero tokens).open_tokens in
-    let all : joined entries ≡ tokens = last_joined (cut_from zero tokens).ended (cut_from zero tokens).open_tokens ∙ cut_whole zero tokens in
+    let all : joined entries ≡ tokens = and_last_joined (cut_from zero tokens).ended (cut_from zero tokens).open_tokens ∙ cut_whole zero tokens in
     whole tokens (map itself entries) cut (each_itself origin [] 1 entries (subst (AllByRecursion IsNoFurtherWord) (sym all) none))
     (cut.whole ∙ sym (entries_text tokens) ∙ written_itself entries) (told_nothing entries)
 

@@ -11,10 +11,7 @@ use Rattle.zone_words.specs.Parameters.Printed.{PrintsTouching, written_touching
 use Rattle.zone_words.specs.PrintedData.{NoItemsOf, PrintParts, PrintsFields}
 use Rattle.zone_words.specs.Table.{NamedField, field_of}
 use Rattle.zone_words.specs.declared.field.Field.{Field}
-
-written_after : (items more : List TouchingItem) → written_touching (items ++ more) ≡ written_touching items ++ written_touching more
-written_after [] more = refl
-written_after (d ∷ items) more = grind (arith, written_after items more, append_assoc)
+use Rattle.zone_words.proofs.OfParameters.EachPrinted.{touching_more}
 
 -- some fields are printed, and these are left with the rest of the octets
 pub record PrintedSoFar (fields left : List NamedField) (octets rest old new : List ℕ) : Type 0
@@ -69,7 +66,7 @@ one_more_field fields f later octets rest after old mid new have own = record {
   whole = have.whole ∙ ap (λ r. have.front ++ r) own.own.whole ∙ sym (append_assoc have.front own.part after);
   appended =
       own.appended ∙ ap (λ m. m ++ written_touching own.items) have.appended ∙ append_assoc old (written_touching have.items) (written_touching own.items)
-      ∙ ap (λ t. old ++ t) (sym (written_after have.items own.items));
+      ∙ ap (λ t. old ++ t) (sym (touching_more have.items own.items));
   with_more = λ more parts printed.
       let all = have.with_more (own.items ++ more) (own.part ∷ parts) (own.items, more, refl, own.printed, printed) in
       (all.0, (subst (λ i. PrintParts fields i all.0) (sym (append_assoc have.items own.items more)) all.1.0, all.1.1 ∙ sym (append_assoc have.front own.part (joined parts))));

@@ -1,11 +1,9 @@
 -- The items that are printed for data stand on a line as they are, and a terminal shows each octet
 -- of what is written.
-use Rattle.zone_name.proofs.Texts.Bare.{not_bare}
 use Rattle.zone_rdata.proofs.Common.{each_weaker}
 use Rattle.zone_rdata.specs.Item.{bare, quoted}
 use Rattle.zone_rdata.specs.Text.{written_item}
-use Rattle.std.proofs.Common.{rules}
-use Rattle.zone_words.proofs.Common.{All-from_recursion, AllByRecursion, AllByRecursion-append, Bool, IsUnit, List, NamedField, RawItem, TouchingItem, Written, [], arith, ends_item, false, if◌then◌else◌, subst, sym, true, ℕ, ◌∷◌}
+use Rattle.zone_words.proofs.Common.{All-from_recursion, AllByRecursion, AllByRecursion-append, Bool, List, NamedField, RawItem, TouchingItem, [], arith, false, if◌then◌else◌, subst, sym, true, ℕ, ◌∷◌}
 use Rattle.zone_words.proofs.Printed.Graphic.{AreGraphic, IsGraphic, IsGraphicItem}
 use Rattle.zone_words.proofs.Printed.GraphicItems.{AreGraphicItems, each_graphic, location_graphic, one_graphic, perhaps_graphic, string_graphic, strings_graphic, types_graphic, value_graphic}
 use Rattle.zone_words.proofs.Printed.GraphicParameters.{IsGraphicBehind, parameters_graphic}
@@ -19,6 +17,7 @@ use Rattle.zone_words.specs.PrintedData.{PrintParts, PrintsApart, PrintsBare, Pr
 use Rattle.zone_words.specs.WordsLine.{Stands, StandsBehind}
 use Rattle.zone_words.specs.declared.field.FieldKind.{FieldKind}
 use Rattle.zone_words.specs.declared.field.FieldKind.TheVariants.{Bare, Base64, Each, Hex, Location, Nothing, OneString, Parameters, PerhapsOneString, PerhapsTypes, Prefixes, QuotedValue, Strings, Types, Value}
+use Rattle.zone_text.proofs.Tokens.StandingItems.{units_go_on}
 
 -- ---- fields
 
@@ -54,10 +53,6 @@ parts_graphic (f ∷ fields) items (part ∷ parts) p =
     subst (AllByRecursion IsGraphicBehind) (sym p.2) (AllByRecursion-append IsGraphicBehind p.0 p.1 (field_graphic f.kind p.0 part p.3) (parts_graphic fields p.1 parts p.4))
 
 -- ---- they stand
-
-units_go_on : (units : List Written) → AllByRecursion (IsUnit not_bare) units → AllByRecursion (IsUnit ends_item) units
-units_go_on [] each = tt
-units_go_on (w ∷ units) each = ((search rules), units_go_on units each.1)
 
 item_stands : (item : RawItem) → IsGraphicItem item → Stands item
 item_stands (bare text) is = record { units = is.stands.units; is = (is.stands.some, units_go_on is.stands.units is.stands.each); spelt = is.stands.parts }

@@ -1,8 +1,9 @@
 -- Words of further types are words of registered types, and no further type has a layout.
-use Rattle.zone_words.proofs.Common.{Bool, IfNone, IfSome, IsCapped, NothingIs, drop, inl, subst, inr, ◌||◌, ◌⊎◌, FurtherType, IsFurtherWord, IsGeneric, IsKindWord, IsMnemonic, IsNumbered, IsWordAmong, List, Named, NamedType, None, Option, RawItem, Some, ap, by_mnemonic, by_number, bytes_eq, bytes_eq-Decides, codes, each_mnemonic, false, false≢true, find, find_mapped, folded_label, folded_octet, found_each, further_names, further_type, further_types, list_all, map-append, mnemonic_among, named, not, not-true, option_map, refl, registered_types, sym, take, true, type_names, types, word_once, ℕ, ◌++◌, ◌==◌, ◌∙◌, ◌∷◌, ◌≡◌}
+use Rattle.zone_words.proofs.Common.{Bool, IfNone, IfSome, IsCapped, NothingIs, drop, inl, subst, inr, ◌||◌, ◌⊎◌, FurtherType, IsFurtherWord, IsGeneric, IsKindWord, IsMnemonic, IsNumbered, IsWordAmong, List, Named, NamedType, None, Option, RawItem, Some, ap, by_mnemonic, by_number, bytes_eq, bytes_eq-Decides, codes, each_mnemonic, false, false≢true, find, find_mapped, folded_label, folded_octet, found_each, further_names, further_type, further_types, list_all, map-append, mnemonic_among, named, not, not-true, option_map, refl, registered_types, sym, take, true, type_names, types, ℕ, ◌++◌, ◌==◌, ◌∙◌, ◌∷◌, ◌≡◌}
 unfoldable use Rattle.zone_rdata.proofs.Words.OneWord.{is_number, own_numbers, unlike}
 use Rattle.zone_rdata.specs.Layout.{fields_in, layout}
 use Rattle.zone_rdata.specs.Spelling.{States, StatesFor, in_octets, in_words}
+use Rattle.zone_words.proofs.TypeWords.{word_of_type_once}
 
 is_same : Option (List ℕ) → List ℕ → Bool
 is_same None word = false
@@ -43,8 +44,8 @@ unfolding is_same
 registered_further = registered_word further_names refl
 
 pub same_number : (word : List ℕ) (n : ℕ) (f : FurtherType) → IsKindWord word n → IsFurtherWord word f → n ≡ f.number
-unfolding is_number own_numbers unlike is_same
-same_number word n f kind further = word_once registered_types (codes "TYPE") refl refl word n f.number (registered_word type_names refl word n kind) (registered_further word f.number further.named)
+unfolding is_same
+same_number word n f kind further = word_of_type_once word n f.number (registered_word type_names refl word n kind) (registered_further word f.number further.named)
 
 -- ---- the registered types in three parts, of which each has its words
 

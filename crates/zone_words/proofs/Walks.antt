@@ -1,17 +1,14 @@
 -- What is written in place of the type's word and the tokens after it.
-use Rattle.zone_words.proofs.Common.{AllByRecursion, AllFollow, IsToken, List, Token, WritesBetween, Written, [], ap, append-nil, append_assoc, arith, blank, codes, common_steps, digit_tokens, encode_lower, escaped, filter, flat_map-append, follow_after, generic_tokens, length, map, plain, refl, renamed, stays, subst, sym, text, token_text, type_token, word, written, written_text, ℕ, ◌++◌, ◌∙◌, ◌∷◌, ◌≡◌}
+use Rattle.zone_words.proofs.Common.{AllByRecursion, AllFollow, IsToken, List, Token, WritesBetween, Written, [], ap, append-nil, append_assoc, arith, blank, codes, common_steps, digit_tokens, encode_lower, escaped, filter, flat_map-append, follow_after, generic_tokens, length, refl, renamed, stays, subst, sym, text, token_text, type_token, word, written, ℕ, ◌++◌, ◌∙◌, ◌∷◌, ◌≡◌}
 use Rattle.zone_text.proofs.Common.{bare}
 use Rattle.std.specs.Prelude.{decimal}
 use Rattle.zone_words.specs.Written.{in_octets}
+use Rattle.zone_name.proofs.Texts.Bare.{plain_text}
 
 -- ---- words
 
-plain_text : (octets : List ℕ) → written_text (map plain octets) ≡ octets
-plain_text [] = refl
-plain_text (c ∷ octets) = ap (λ t. c ∷ t) (plain_text octets)
-
 pub word_text : (octets : List ℕ) → token_text (word octets) ≡ octets
-word_text octets = plain_text octets
+word_text octets = sym (plain_text octets)
 
 pub type_pushed : (number : ℕ) (old first new : List ℕ) → first ≡ old ++ codes "TYPE" → new ≡ first ++ decimal number → new ≡ old ++ token_text (type_token number)
 type_pushed number old first new one two = two ∙ ap (λ t. t ++ decimal number) one ∙ append_assoc old (codes "TYPE") (decimal number) ∙ ap (λ t. old ++ t) (sym (word_text (codes "TYPE" ++ decimal number)))

@@ -1,36 +1,19 @@
 -- Of the records of an input one is the first that is refused, or all are accepted.
-use Rattle.zone_engine.proofs.Common.{◌≡◌, ◌≢◌, ◌⊎◌, ℕ, Bool, List, [], ◌∷◌, ◌++◌, refl, sym, ap, ◌∙◌, subst, inl, inr, ⊎_elim, append_assoc, append-nil, arith, cases_eq, bytes_decides, IsWithin, Record, data_of, Fault, ClassMismatch, MultipleSoa, DifferingTtl, Place, Placed, OtherClass, AreTwoSoas, OtherSoa, Accepts, IsRefusedFor, class, soa, ttl, AllAccepted, IsFirstRefused, records_of, Has, InOneSet, covered_octets, common_steps, Labels, AllByRecursion, Line, a_x, soa_of, address_of, each_Has}
-use Rattle.std.proofs.Common.{Decides, drop, length-append, ◌-◌, length}
+use Rattle.zone_engine.proofs.Common.{◌≡◌, ◌≢◌, ◌⊎◌, ℕ, List, [], ◌∷◌, ◌++◌, refl, sym, ap, ◌∙◌, subst, inl, inr, ⊎_elim, append_assoc, append-nil, arith, cases_eq, IsWithin, Record, data_of, Fault, ClassMismatch, MultipleSoa, DifferingTtl, Place, Placed, OtherClass, AreTwoSoas, OtherSoa, Accepts, IsRefusedFor, class, soa, ttl, AllAccepted, IsFirstRefused, records_of, Has, InOneSet, covered_octets, common_steps, Labels, AllByRecursion, Line, a_x, soa_of, address_of, each_Has}
+use Rattle.std.proofs.Common.{drop, length-append, ◌-◌, length}
 use Rattle.zone_name.proofs.Common.{drop_at, take, take-append-drop}
 use Rattle.zone_engine.proofs.Refusals.Parting.{two_partings, Decides-owner}
+use Rattle.zone_rdata.proofs.Choices.{Decided, both_or_not, denied_or_not, either_or_not, tested_or_not}
+use Rattle.zone_rdata.proofs.Words.OneWord.{same_or_not}
 
--- a fact holds, or it doesn't
-abbrev pub Settled : Type 0 → Type 0
-Settled P = P ⊎ (P → ⊥)
+pub same_owner : (a b : Labels) → Decided (a ≡ b)
+same_owner a b = tested_or_not _ (Decides-owner a b)
 
-settled : {P : Type 0} (b : Bool) → Decides b P → Settled P
-settled b decides = grind arith
-
-pub not_settled : {P : Type 0} → Settled P → Settled (P → ⊥)
-not_settled is = grind arith
-
-both_settled : {P Q : Type 0} → Settled P → Settled Q → Settled (P × Q)
-both_settled p q = grind arith
-
-either_settled : {P Q : Type 0} → Settled P → Settled Q → Settled (P ⊎ Q)
-either_settled p q = grind arith
-
-pub same_owner : (a b : Labels) → Settled (a ≡ b)
-same_owner a b = settled _ (Decides-owner a b)
-
-same_octets : (a b : List ℕ) → Settled (a ≡ b)
-same_octets a b = settled _ (bytes_decides a b)
-
-same_set : (r s : Record) → Settled (InOneSet r s)
-same_set r s = grind (arith, both_settled (same_owner r.owner s.owner) (both_settled (cases_eq r.kind s.kind) (same_octets (covered_octets (data_of r)) (covered_octets (data_of s)))))
+same_set : (r s : Record) → Decided (InOneSet r s)
+same_set r s = grind (arith, both_or_not (same_owner r.owner s.owner) (both_or_not (cases_eq r.kind s.kind) (same_or_not (covered_octets (data_of r)) (covered_octets (data_of s)))))
 
 -- a name lies within an apex, or it doesn't
-pub is_within : (labels apex : Labels) → Settled (IsWithin labels apex)
+pub is_within : (labels apex : Labels) → Decided (IsWithin labels apex)
 is_within labels apex =
     let k = length labels - length apex in
     ⊎_elim (λ same. inl (take k labels, cc (same, take-append-drop k labels)))
@@ -38,15 +21,15 @@ is_within labels apex =
     (same_owner (drop k labels) apex)
 
 -- some record has a property, or none has it
-pub some_or_none : (P : Record → Type 0) → ((r : Record) → Settled (P r)) → (records : List Record) → Settled ((r : Record) × Has records r × P r)
+pub some_or_none : (P : Record → Type 0) → ((r : Record) → Decided (P r)) → (records : List Record) → Decided ((r : Record) × Has records r × P r)
 some_or_none P test [] = inr (λ (r, has, p). has)
 some_or_none P test (s ∷ records) = grind (arith, test s, some_or_none P test records)
 
 -- ---- a record is refused or accepted
 
 module _ (held : List Record) (r : Record) where
-  two_soas : (s : Record) → Settled (AreTwoSoas s r)
-  two_soas s = grind (arith, both_settled (cases_eq r.kind 6) (both_settled (cases_eq s.kind 6) (either_settled (not_settled (same_owner s.owner r.owner)) (not_settled (same_octets s.octets r.octets)))))
+  two_soas : (s : Record) → Decided (AreTwoSoas s r)
+  two_soas s = grind (arith, both_or_not (cases_eq r.kind 6) (both_or_not (cases_eq s.kind 6) (either_or_not (denied_or_not (same_owner s.owner r.owner)) (denied_or_not (same_or_not s.octets r.octets)))))
 
   refused_or_accepted : ((f : Fault) × IsRefusedFor held r f) ⊎ Accepts held r
   refused_or_accepted =
@@ -54,8 +37,8 @@ module _ (held : List Record) (r : Record) where
       ⊎_elim (λ other. inl (MultipleSoa, soa one_class other)) (λ one_soa.
       ⊎_elim (λ (s, has, differs). inl (DifferingTtl, ttl one_class one_soa (s, has, differs.0, differs.1)))
       (λ none. inr (record { one_class = one_class; one_soa = one_soa; one_ttl = λ (s, has, one, other). none (s, has, (one, other)) }))
-      (some_or_none (λ s. InOneSet s r × (s.ttl ≢ r.ttl)) (λ s. both_settled (same_set s r) (not_settled (cases_eq s.ttl r.ttl))) held))
-      (some_or_none (λ s. AreTwoSoas s r) two_soas held)) (some_or_none (λ s. s.class ≢ r.class) (λ s. not_settled (cases_eq s.class r.class)) held)
+      (some_or_none (λ s. InOneSet s r × (s.ttl ≢ r.ttl)) (λ s. both_or_not (same_set s r) (denied_or_not (cases_eq s.ttl r.ttl))) held))
+      (some_or_none (λ s. AreTwoSoas s r) two_soas held)) (some_or_none (λ s. s.class ≢ r.class) (λ s. denied_or_not (cases_eq s.class r.class)) held)
 
 -- ---- the first that is refused
 

@@ -7,7 +7,8 @@ use Rattle.zone_set.proofs.Holding.Inserting.{AreCompatible-with}
 use Rattle.zone_set.proofs.Ordering.Between.{later_all}
 use Rattle.zone_set.proofs.Ordering.SetOrder.{canonical_total, exact_canonical}
 use Rattle.zone_engine.proofs.Refusals.Parting.{Has-parts, each_accepted}
-use Rattle.zone_engine.proofs.Refusals.Deciding.{Settled, not_settled, is_within, some_or_none, one_or_all}
+use Rattle.zone_engine.proofs.Refusals.Deciding.{is_within, some_or_none, one_or_all}
+use Rattle.zone_rdata.proofs.Choices.{Decided, denied_or_not}
 
 -- ---- the ascending list
 
@@ -59,13 +60,13 @@ module _ (P : Record → Type 0) where
   lesser : (s : Record) (records : List Record) → P s → (r : Record) → Has records r → P r → IsLeastOf P records r → (o : Ordering) → name_cmp s.owner r.owner ≡ o → LeastOf P (s ∷ records)
   lesser s records p_s r has p_r least o is = grind (arith, name_cmp-exact, name_cmp-total)
 
-  with_one : (s : Record) (records : List Record) → Settled (P s) → LeastOf P records → LeastOf P (s ∷ records)
+  with_one : (s : Record) (records : List Record) → Decided (P s) → LeastOf P records → LeastOf P (s ∷ records)
   with_one s records (inl p_s) (inl (r, has, p_r, least)) = lesser s records p_s r has p_r least (name_cmp s.owner r.owner) refl
   with_one s records (inl p_s) (inr none) = inl (s, inl refl, p_s, λ t has_t p_t other. grind arith)
   with_one s records (inr not_s) (inl (r, has, p_r, least)) = inl (r, inr has, p_r, λ t has_t p_t other. grind arith)
   with_one s records (inr not_s) (inr none) = inr (λ r has p. grind arith)
 
-  least_of : ((r : Record) → Settled (P r)) → (records : List Record) → LeastOf P records
+  least_of : ((r : Record) → Decided (P r)) → (records : List Record) → LeastOf P records
   least_of test [] = inr (λ r has p. has)
   least_of test (s ∷ records) = with_one s records (test s) (least_of test records)
 
@@ -94,7 +95,7 @@ module _ (placed : List Placed) (each : AllByRecursion IsRecord (records_of plac
         ⊎_elim (λ (soa, has, is_soa).
         ⊎_elim (λ (r, has_r, out, least). inl (OutOfZone r.owner, Whole, unfinished (OutOfZone r.owner) Whole all refl (outside r.owner (record { soa = soa; held_soa = (has, is_soa); held_owner = (r, has_r, refl); outside = out; least = least }))))
         (λ none. inside soa has is_soa (each_from_Has (λ r. IsWithin r.owner soa.owner) (records_of placed) (λ r has_r. ⊎_elim (λ within. within) (λ out. absurd (none r has_r out)) (is_within r.owner soa.owner))))
-        (least_of (λ r. IsWithin r.owner soa.owner → ⊥) (λ r. not_settled (is_within r.owner soa.owner)) (records_of placed)))
+        (least_of (λ r. IsWithin r.owner soa.owner → ⊥) (λ r. denied_or_not (is_within r.owner soa.owner)) (records_of placed)))
         (λ none. inl (NoSoa, Whole, unfinished NoSoa Whole all refl (no_soa (λ r has is_soa. none (r, has, is_soa)))))
         (some_or_none (λ r. r.kind ≡ 6) (λ r. cases_eq r.kind 6) (records_of placed))
 

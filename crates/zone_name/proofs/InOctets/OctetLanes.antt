@@ -6,10 +6,6 @@ use lib.Lanes.{Each1, chunk, mask_l, put_chunk, sel_l, top}
 
 -- ---- lanes that were computed by a function of each octet
 
-pub itself : (v : List ℕ) → v ≡ map (λ x. x) v
-itself [] = refl
-itself (x ∷ v) = ap (λ t. x ∷ t) (itself v)
-
 -- one lane or the other, by a test of each octet
 pub chosen : (p : ℕ → Bool) (f g : ℕ → ℕ) (v : List ℕ) {tests : List Bool} {xs ys : List ℕ}
     → tests ≡ map p v → xs ≡ map f v → ys ≡ map g v

@@ -1,9 +1,8 @@
 -- A text without escapes, whose labels' lengths are written over the dots before them.
 use lib.Lanes.{chunk, mask_l, put_chunk}
-use Rattle.std.proofs.lemmas.List.{drop-set-lt}
+use Rattle.std.proofs.lemmas.List.{drop-set-lt, map-id}
 use Rattle.zone_name.proofs.Common.{common_steps, AllByRecursion, AreOctets, Bool, HoldsCasedLabels, IsCasedName, IsUnit, IsWrittenLabel, List, Ok, TurnsEvens, WritesLengths, Written, [], after_dots, ap, append-nil, append_assoc, ap₂, arith, bytes_decides, dotted, drop, drop_at, drop_more, each_after, eqb-false, eqb-true, false, flat_map, flat_map-append, get_or, get_or-drop, is_dot, is_mark, is_plain, kept, labels_of, length, length-append, length-drop, length-map, length-set, length-take-le, map, map-map, map_push, nat_eq, not, not-true, octet_of, or_parts, parted, plain, pointwise, reading, refl, set, set_at, subst, suc, sym, take, take-append-drop, take_at, take_more_put_chunk, true, with_length, written_octets, written_text, zero, ℕ, ◌++◌, ◌+◌, ◌-◌, ◌*◌, ◌<◌, ◌==◌, ◌∙◌, ◌∷◌, ◌≡◌, ◌≤◌}
 use Rattle.zone_name.proofs.InOctets.Evens.{even_bits, pair_at, put_none, put_pair, two_bits}
-use Rattle.zone_name.proofs.InOctets.OctetLanes.{itself}
 use Rattle.zone_name.proofs.InOctets.Octets.{labels_of-open_cased}
 use Rattle.zone_name.proofs.InOctets.Pushing.{AllByRecursion-append, HoldsCasedLabels-frames, frames_push}
 use Rattle.zone_name.proofs.Spelling.Marks.{ArePlainFrom, tells_set}
@@ -42,7 +41,7 @@ lengths_label old now next label rest start w each some short at is =
       short = AllByRecursion-append (λ l. length l ≤ 63) w.written (new ∷ []) w.short
           (omega (arith, short, length-map label plain), tt);
       dots = cc (plain_text label, append_assoc dots (46 ∷ written_text new) rest, append-nil (46 ∷ written_text new), flat_map-append (λ (l : List Written). 46 ∷ written_text l) w.written (new ∷ []));
-      lengths = cc (set_at frames 46 (label ++ rest) (length label) start front, append_assoc frames (with_length label) rest, frames_push (map written_octets w.written) label, map-map octet_of plain label, itself label, map_push written_octets w.written new);
+      lengths = cc (set_at frames 46 (label ++ rest) (length label) start front, append_assoc frames (with_length label) rest, frames_push (map written_octets w.written) label, map-map octet_of plain label, map-id label, map_push written_octets w.written new);
     }
 
 -- ---- octets that are seen to be plain, 16 at a time

@@ -42,7 +42,7 @@ printed_unit : (special printed : Bool) (c : ℕ) → c < 256 → is_special c �
 unfolding written_by
 printed_unit special printed c low s p = search rules
 
-bare_octet : (c : ℕ) → c < 256 → StandsBare (octet_text c)
+pub bare_octet : (c : ℕ) → c < 256 → StandsBare (octet_text c)
 bare_octet c low = grind (arith, printed_text (is_special c) (is_printed c) c, bare_unit (written_by (is_special c) (is_printed c) c) (printed_unit (is_special c) (is_printed c) c low refl refl))
 
 bare_label : (label : List ℕ) → AllByRecursion IsFoldedOctet label → StandsBare (label_text label)

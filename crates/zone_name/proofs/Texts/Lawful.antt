@@ -19,7 +19,7 @@ written_by true printed c = escaped c
 written_by false true c = plain c
 written_by false false c = decimal (48 + c / 100) (48 + c / 10 % 10) (48 + c % 10)
 
-abbrev printed_octet : ℕ → Written
+abbrev pub printed_octet : ℕ → Written
 printed_octet c = written_by (is_special c) (is_printed c) c
 
 pub printed_text : (special printed : Bool) (c : ℕ) → text_of (written_by special printed c) ≡ (if special then 92 ∷ c ∷ [] else (if printed then c ∷ [] else decimal_escape c))
@@ -33,7 +33,7 @@ value_by special printed c = grind arith
 pub digit_test : (d : ℕ) → d < 10 → is_digit (48 + d) ≡ true
 digit_test d h = grind (arith, nat_tests)
 
-written_is : (special printed : Bool) (c : ℕ) → c < 256 → is_special c ≡ special → IsUnit is_dot (written_by special printed c)
+pub written_is : (special printed : Bool) (c : ℕ) → c < 256 → is_special c ≡ special → IsUnit is_dot (written_by special printed c)
 unfolding written_by
 written_is special printed c h e = search rules
 

@@ -39,7 +39,7 @@ texts_or_not ends [] = inl ([], refl)
 texts_or_not ends (text ∷ []) = last_by ends text (group_or_not text) (ipv4_or_not text)
 texts_or_not ends (text ∷ next ∷ texts) = choice_both (λ added more. added ++ more) (λ added more is have. (added, more, is, have, refl)) (λ octets have. ((have.0, have.2), (have.1, have.3))) (group_or_not text) (texts_or_not ends (next ∷ texts))
 
-parts_or_not : (ends : Bool) (text : List ℕ) → Choice (ArePartsOf ends text)
+pub parts_or_not : (ends : Bool) (text : List ℕ) → Choice (ArePartsOf ends text)
 parts_or_not ends [] = inl ([], record { parts = []; each = tt; parted = refl; value = refl })
 parts_or_not ends (c ∷ text) = choice_as (λ octets. octets) (parts_listed ends (c ∷ text)) (λ none octets are. none octets (parts_found ends (c ∷ text) octets (omega arith) are)) (texts_or_not ends (split 58 (c ∷ text)))
 

@@ -36,7 +36,7 @@ words_fault_once names once origin row items _ _ (too_long _ _ _) (too_long _ _ 
 -- ---- items of a layout, in words or in the generic form
 
 -- items in the generic form, and those that have a fault of it, begin with the mark
-generic_marks : (items : List RawItem) (octets : List ℕ) → StatesGeneric items octets → IsGeneric items
+pub generic_marks : (items : List RawItem) (octets : List ℕ) → StatesGeneric items octets → IsGeneric items
 generic_marks items octets s = (s.form.item ∷ s.digits, s.form.parts)
 
 form_fault_marks : (laid : Option (List Field)) (items : List RawItem) (fault : Fault) → IsGenericDataFault laid items fault → IsGeneric items
@@ -125,7 +125,7 @@ form_by origin class kind (Some row) items e (inl (stated, form)) = elim (canoni
 ]
 
 -- the first item is the mark or not
-marked_or_not : (items : List RawItem) → Decided (IsGeneric items)
+pub marked_or_not : (items : List RawItem) → Decided (IsGeneric items)
 marked_or_not (bare text ∷ rest) = grind (arith, same_or_not text mark)
 marked_or_not items = inr (λ h. absurd (let e = h.1 in cc))
 

@@ -9,10 +9,11 @@ pub either_form : (P : List ℕ → Type 0) (n : ℕ) → P (codes "TYPE" ++ dec
 either_form P n numbered named None = numbered
 either_form P n numbered named (Some fields) = named
 
-numbered_printed : (name : List ℕ) (n : ℕ) → n < 2 ^ 64 → IsNumbered name (name ++ decimal n) n
+pub numbered_printed : (name : List ℕ) (n : ℕ) → n < 2 ^ 64 → IsNumbered name (name ++ decimal n) n
 numbered_printed name n short = record { front = name; digits = decimal n; parts = refl; named = refl; number = decimal-is n short }
 
-word_of : (rows : List Named) (name : List ℕ) (row : Option (List ℕ)) (n : ℕ) → mnemonic_among rows n ≡ row → n < 2 ^ 64 → IsWordAmong rows name (word_or_numbered row name n) n
+-- the word of a number is printed by the row that it has or not
+pub word_of : (rows : List Named) (name : List ℕ) (row : Option (List ℕ)) (n : ℕ) → mnemonic_among rows n ≡ row → n < 2 ^ 64 → IsWordAmong rows name (word_or_numbered row name n) n
 word_of rows name row n e short = grind (arith, numbered_printed)
 
 pub class_printed : (n : ℕ) → IsClass n → IsClassWord (class_text n) n

@@ -8,7 +8,7 @@ IsPrintedItem (bare text) = StandsBare text
 IsPrintedItem (quoted text) = StandsInQuotes text
 
 -- octets that stand by themselves outside quotes
-abbrev AreBare : List ℕ → Type 0
+abbrev pub AreBare : List ℕ → Type 0
 AreBare text = AllByRecursion (λ c. is_bare c ≡ true) text
 
 -- ---- literals
@@ -16,7 +16,7 @@ AreBare text = AllByRecursion (λ c. is_bare c ≡ true) text
 abbrev pub are_bare : List ℕ → Bool
 are_bare text = nat_lt 0 (length text) && list_all is_bare text
 
-tested_each : (text : List ℕ) → list_all is_bare text ≡ true → AreBare text
+pub tested_each : (text : List ℕ) → list_all is_bare text ≡ true → AreBare text
 tested_each text e = recursion_from_All (λ c. is_bare c ≡ true) text (AllPass-from_list_all is_bare text e)
 
 pub bare_tested : (text : List ℕ) → are_bare text ≡ true → StandsBare text
@@ -29,7 +29,7 @@ bare_decimal n short =
     let is = decimal-is n short in
     bare_octets (decimal n) is.some (each_weaker (λ c. is_bare c ≡ true) (λ c digit. grind (arith, nat_tests)) (decimal n) is.digits)
 
-hex_bare : (octets : List ℕ) → AreOctets octets → AreBare (encode_lower octets)
+pub hex_bare : (octets : List ℕ) → AreOctets octets → AreBare (encode_lower octets)
 unfolding encode_with
 hex_bare [] low = tt
 hex_bare (c ∷ octets) low =

@@ -85,6 +85,9 @@ mnemonic_by : (rows : List Named) → ascends rows ≡ true → (word : List ℕ
 mnemonic_by rows up word None e = inr (no_row rows word e)
 mnemonic_by rows up word (Some row) e = inl (row.number, row_is rows up word row e)
 
+pub mnemonic_or_not : (rows : List Named) → ascends rows ≡ true → (word : List ℕ) → Choice (IsMnemonic rows word)
+mnemonic_or_not rows up word = mnemonic_by rows up word (find (λ row. bytes_eq (folded_label word) (folded_label row.mnemonic)) rows) refl
+
 -- ---- a name and a number right after it
 front_is : (name word : List ℕ) (n : ℕ) (x : IsNumbered name word n) → length x.front ≡ length name
 front_is name word n x = grind (arith, length-map)
@@ -110,8 +113,8 @@ word_by rows name word (inl found) numbered = inl (found.0, by_mnemonic found.1)
 word_by rows name word (inr none) (inl found) = inl (found.0, by_number found.1)
 word_by rows name word (inr none) (inr none') = inr (λ n h. elim h [ by_mnemonic x ↦ none n x | by_number x ↦ none' n x ])
 
-word_or_not : (rows : List Named) (name : List ℕ) → ascends rows ≡ true → (word : List ℕ) → Choice (IsWordAmong rows name word)
-word_or_not rows name up word = word_by rows name word (mnemonic_by rows up word (find (λ row. bytes_eq (folded_label word) (folded_label row.mnemonic)) rows) refl) (numbered_or_not name word)
+pub word_or_not : (rows : List Named) (name : List ℕ) → ascends rows ≡ true → (word : List ℕ) → Choice (IsWordAmong rows name word)
+word_or_not rows name up word = word_by rows name word (mnemonic_or_not rows up word) (numbered_or_not name word)
 
 pub class_or_not : (word : List ℕ) → Choice (IsClassWord word)
 class_or_not word = word_or_not classes (codes "CLASS") refl word

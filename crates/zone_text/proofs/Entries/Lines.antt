@@ -43,7 +43,8 @@ line_items items = refl
 third_by : (a b : Bool) (s t : List ℕ) (v w : Word) → (if a then unless_stated (Some s) v else if b then unless_stated (Some t) w else None) ≡ None
 third_by a b s t v w = grind arith
 
-whole_parts : (ttl_word class_word kind_word : List ℕ) (items : List RawItem) → begins_with_digit ttl_word ≡ true → begins_with_digit class_word ≡ false → is_class_word class_word ≡ true → parts_after [] (raw.bare ttl_word ∷ raw.bare class_word ∷ raw.bare kind_word ∷ items) ≡ record { words = ttl ttl_word ∷ class class_word ∷ []; rest = raw.bare kind_word ∷ items }
+-- the parts of an entry whose items are a TTL, a class, a type and more
+pub whole_parts : (ttl_word class_word kind_word : List ℕ) (items : List RawItem) → begins_with_digit ttl_word ≡ true → begins_with_digit class_word ≡ false → is_class_word class_word ≡ true → parts_after [] (raw.bare ttl_word ∷ raw.bare class_word ∷ raw.bare kind_word ∷ items) ≡ record { words = ttl ttl_word ∷ class class_word ∷ []; rest = raw.bare kind_word ∷ items }
 whole_parts ttl_word class_word kind_word items is_ttl no_ttl is_class = cc (next_part [] (raw.bare ttl_word) (raw.bare class_word ∷ raw.bare kind_word ∷ items) (Some (ttl ttl_word)) (rw is_ttl refl), next_part (ttl ttl_word ∷ []) (raw.bare class_word) (raw.bare kind_word ∷ items) (Some (class class_word)) (rw (no_ttl, is_class) refl), next_part (ttl ttl_word ∷ class class_word ∷ []) (raw.bare kind_word) items None (third_by (begins_with_digit kind_word) (is_class_word kind_word) ttl_word class_word (ttl kind_word) (class kind_word)))
 
 -- what an entry states, by its words, its owner, its class, its type and the items of its data

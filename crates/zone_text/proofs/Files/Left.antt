@@ -10,7 +10,7 @@ pub text_of_entries : (entries : List (List Token)) → flat_map text entries �
 text_of_entries [] = refl
 text_of_entries (entry ∷ entries) = search (rules, flat_map-append, joined, text_of_entries entries)
 
-and_last_joined : (ended : List (List Token)) (open_tokens : List Token) → joined (and_last ended open_tokens) ≡ joined ended ++ open_tokens
+pub and_last_joined : (ended : List (List Token)) (open_tokens : List Token) → joined (and_last ended open_tokens) ≡ joined ended ++ open_tokens
 and_last_joined ended open_tokens = grind (arith, common_steps)
 
 pub entries_text : (tokens : List Token) → flat_map text (and_last (cut_from zero tokens).ended (cut_from zero tokens).open_tokens) ≡ text tokens

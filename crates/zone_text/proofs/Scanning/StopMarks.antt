@@ -15,6 +15,7 @@ use Rattle.zone_name.proofs.InOctets.LookedUp.{Repeats, looked_up}
 use Rattle.zone_name.proofs.InOctets.Runs.{after_bits, first_inside, none_inside, prefix_step}
 use Rattle.zone_text.specs.Machine.Stops.{Tells}
 use Rattle.zone_text.specs.declared.stops.Stops.{Stops}
+use Rattle.std.proofs.lemmas.List.{map-id}
 
 -- ---- how far was looked
 
@@ -106,11 +107,6 @@ unknown_rest new octets ahead seen more back tells = grind (arith, common_steps,
 
 -- ---- 64 octets beside each other
 
--- the low four bits of each lane are a place in a table of 16
-itself : (v : List ℕ) → v ≡ map (λ x. x) v
-itself [] = refl
-itself (x ∷ v) = ap (λ t. x ∷ t) (itself v)
-
 -- a lane that is the octet of the table with its low bits, or `)`
 abbrev pub stop_lane : List ℕ → ℕ → ℕ
 stop_lane s x = bit_or (same_mask x (get_or s (bit_and x 15) 0)) (same_mask x 41)
@@ -124,7 +120,7 @@ found_bits_are p octets t s alike z room fits copies look lanes agree =
     let v = take 64 octets in
     let long : length v ≡ 64 = omega (arith, length-take 64 octets) in
     let read : alike ≡ map (λ x. get_or s (bit_and x 15) 0) v = look ∙ looked_up 64 t s v _ long (zip2_splat bit_and v 64 15 long) copies in
-    let same : zip2 same_mask v alike ≡ map (λ x. same_mask x (get_or s (bit_and x 15) 0)) v = zip2_of_maps same_mask (λ x. x) (λ x. get_or s (bit_and x 15) 0) v (itself v) read in
+    let same : zip2 same_mask v alike ≡ map (λ x. same_mask x (get_or s (bit_and x 15) 0)) v = zip2_of_maps same_mask (λ x. x) (λ x. get_or s (bit_and x 15) 0) v (sym (map-id v)) read in
     let closing : zip2 same_mask v (replicate 64 41) ≡ map (λ x. same_mask x 41) v = zip2_splat same_mask v 64 41 long in
     let all : z ≡ map (stop_lane s) v = lanes ∙ zip2_of_maps bit_or (λ x. same_mask x (get_or s (bit_and x 15) 0)) (λ x. same_mask x 41) v same closing in
     ap (λ l. mask_l (map (top 7) l) % 2 ^ 64) all

@@ -7,7 +7,7 @@ use Rattle.zone_text.proofs.Files.Left.{line_feeds}
 use Rattle.zone_text.proofs.Scanning.StopMarks.{goes_on, prefix_stops}
 use Rattle.zone_text.proofs.Tokens.Cuttings.{HasRoom, Stops, Takes, begins, breaks, cuts, depth_on, no_token, one_token_more, some_octet}
 use Rattle.zone_text.proofs.Tokens.ForGood.{ends_not_for_good, malformed_is_bad, stays_for_good}
-use Rattle.zone_text.proofs.Tokens.WrittenItems.{each_plain, ends_but_mark, plain_text}
+use Rattle.zone_text.proofs.Tokens.WrittenItems.{each_plain, ends_but_mark}
 use Rattle.zone_text.proofs.Scanning.FirstEntries.{feeds_of_both, none_first, none_in, other_than_ten}
 pub use Rattle.zone_text.specs.Machine.Spans.{AreUnits, BeginsToken, EndsToken, IsItemOrComment, IsLostToken, IsOpenToken, IsSeen, ItemIs, RunsOut, Settles, between, in_bare, in_bare_lost, in_comment, in_quotes, in_quotes_lost}
 use Rattle.zone_text.specs.Machine.Stops.{Tells}
@@ -15,6 +15,7 @@ pub use Rattle.zone_text.specs.Machine.Walk.{BeginAs, EndsEntry, IsBegun, IsCut,
 use Rattle.zone_text.specs.declared.stops.Stops.{Stops as StopBits}
 use Rattle.zone_text.specs.declared.walk.At.{At}
 use Rattle.zone_text.specs.declared.walk.Between.{Between}
+use Rattle.zone_name.proofs.Texts.Bare.{plain_text}
 
 -- ---- what follows a token
 
@@ -296,7 +297,7 @@ plain_token : (rest after : List ℕ) (c n : ℕ) → n ≡ prefix_len goes_on r
 plain_token rest after c n len some first ends_it = record {
   token = bare (map plain (take n rest));
   left = drop n rest;
-  parts = sym (take-append-drop n rest) ∙ ap (λ t. t ++ drop n rest) (sym (plain_text (take n rest)));
+  parts = sym (take-append-drop n rest) ∙ ap (λ t. t ++ drop n rest) (plain_text (take n rest));
   is = (omega (arith, some, more, length-map (take n rest) plain, length-take n rest), each_plain ends_item (take n rest) (prefix_stops rest n len).1);
   kind = tt;
   settled = subst (Settles (bare (map plain (take n rest)))) (sym first) ends_it;
@@ -417,8 +418,8 @@ bare_to_end rest stopped n len back none some =
       units = map plain rest;
       rest = [];
       each = each_plain ends_item rest (subst (All (λ c. stops_bare c ≡ false)) all (prefix_stops rest n len).1);
-      whole = sym (append-nil (written_text (map plain rest)) ∙ plain_text rest);
-      len = ap length (sym (plain_text rest));
+      whole = plain_text rest ∙ sym (append-nil (written_text (map plain rest)));
+      len = ap length (plain_text rest);
     }) (inl refl) some
 
 -- so does what is left where nothing is

@@ -5,11 +5,12 @@ use Rattle.zone_rdata.specs.Item as raw
 use Rattle.zone_text.proofs.Scanning.StopMarks.{first_at}
 use Rattle.zone_text.proofs.Scanning.StopMarks.{nothing_left as none_beyond}
 use Rattle.zone_text.proofs.Tokens.Cuttings.{EndsComment, begins, comment_dropped, comment_each, comment_ends, comment_whole, some_octet}
-use Rattle.zone_text.proofs.Tokens.WrittenItems.{IsWrittenTo, at_mark, each_plain, plain_text, stops_or}
+use Rattle.zone_text.proofs.Tokens.WrittenItems.{IsWrittenTo, at_mark, each_plain, stops_or}
 use Rattle.zone_text.specs.Machine.Spans.{AreUnits, BeginsToken, EndsHere, EndsToken, IsLostBy, IsItemOrComment, IsSeenComment, IsSpan, IsTokenSpan, in_bare, in_bare_lost, in_comment, in_quotes, in_quotes_lost}
 use Rattle.zone_text.specs.Tokens.{IsToken}
 use Rattle.zone_text.specs.declared.token.Span.{Span}
 use Rattle.zone_text.specs.declared.token.Span.TheVariants as spans
+use Rattle.zone_name.proofs.Texts.Bare.{plain_text}
 
 -- ---- the octets after a backslash that begins no escape
 
@@ -80,7 +81,7 @@ units_more ends octets ahead known k n are back fits each stops count =
     record {
       units = are.units ++ map plain (take k ahead);
       each = AllByRecursion-append (IsUnit ends) are.units (map plain (take k ahead)) are.each (each_plain ends (take k ahead) each);
-      text = taken ∙ ap (λ t. before ++ t) (sym (plain_text (take k ahead))) ∙ sym (flat_map-append text_of are.units (map plain (take k ahead)));
+      text = taken ∙ ap (λ t. before ++ t) (plain_text (take k ahead)) ∙ sym (flat_map-append text_of are.units (map plain (take k ahead)));
       stops = subst (EndsAt (λ c. ends c || c == 92)) (sym left) stops;
       within = omega (arith, size, ap length whole, length-append front (drop k ahead));
     }

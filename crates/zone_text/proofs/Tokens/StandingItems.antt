@@ -8,7 +8,8 @@ use Rattle.zone_rdata.proofs.Texts.Standing.{IsPrintedItem}
 
 -- ---- an item
 
-units_go_on : (units : List Written) → AllByRecursion (IsUnit not_bare) units → AllByRecursion (IsUnit ends_item) units
+-- what stands outside quotes doesn't end an item
+pub units_go_on : (units : List Written) → AllByRecursion (IsUnit not_bare) units → AllByRecursion (IsUnit ends_item) units
 units_go_on [] each = tt
 units_go_on (w ∷ units) each = ((search rules), units_go_on units each.1)
 

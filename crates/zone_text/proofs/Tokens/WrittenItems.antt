@@ -1,7 +1,8 @@
 -- The written octets of an item, from the left.
-use Rattle.zone_text.proofs.Common.{All, AllByRecursion, AllByRecursion-append, Bool, EndsAt, IsUnit, List, Written, [], ap, append_assoc, arith, drop, drop-append_seam, ends_item, eqb-false, false, flat_map-append, get_or, length, length-append, length-drop, length-take, map, ne_eqb, or_parts, plain, recursion_from_All, refl, rules, stops_bare, subst, sym, take, take-append-drop, take-append_seam, text_of, true, unit_of_escape, written_text, ℕ, ◌++◌, ◌+◌, ◌-◌, ◌<◌, ◌==◌, ◌||◌, ◌∙◌, ◌∷◌, ◌≡◌, ◌≢◌, ◌≤◌}
+use Rattle.zone_text.proofs.Common.{All, AllByRecursion, AllByRecursion-append, Bool, EndsAt, IsUnit, List, Written, [], ap, append_assoc, arith, drop, drop-append_seam, ends_item, eqb-false, false, flat_map-append, get_or, length, length-append, length-drop, length-take, map, ne_eqb, or_parts, plain, recursion_from_All, rules, stops_bare, subst, sym, take, take-append-drop, take-append_seam, text_of, true, unit_of_escape, written_text, ℕ, ◌++◌, ◌+◌, ◌-◌, ◌<◌, ◌==◌, ◌||◌, ◌∙◌, ◌∷◌, ◌≡◌, ◌≢◌, ◌≤◌}
 use Rattle.zone_name.specs.Spelling.{BeginsWithEscape}
 use Rattle.zone_text.proofs.Scanning.StopMarks.{first_at}
+use Rattle.zone_name.proofs.Texts.Bare.{plain_text}
 
 -- the first octets are written octets of an item, and what follows ends it or is a backslash
 pub record IsWrittenTo (ends : ℕ → Bool) (octets : List ℕ) (len : ℕ) : Type 0 where
@@ -10,10 +11,6 @@ pub record IsWrittenTo (ends : ℕ → Bool) (octets : List ℕ) (len : ℕ) : T
   pub text : take len octets ≡ written_text units
   pub stops : EndsAt (λ c. ends c || c == 92) (drop len octets)
   pub within : len ≤ length octets
-
-pub plain_text : (octets : List ℕ) → written_text (map plain octets) ≡ octets
-plain_text [] = refl
-plain_text (c ∷ octets) = ap (λ t. c ∷ t) (plain_text octets)
 
 plain_units : (ends : ℕ → Bool) (octets : List ℕ) → AllByRecursion (λ c. (ends c || c == 92) ≡ false) octets → AllByRecursion (IsUnit ends) (map plain octets)
 plain_units ends [] each = tt
@@ -39,7 +36,7 @@ escape_more ends octets escape rest octet len k n so_far less is back found fits
     record {
       units = so_far.units ++ new;
       each = AllByRecursion-append (IsUnit ends) so_far.units new so_far.each (unit_of_escape ends found.escape found.is_escape, each_plain ends (take k rest) each);
-      text = taken ∙ ap (λ t. t ++ more_text) so_far.text ∙ ap (λ t. written_text so_far.units ++ (text_of found.escape ++ t)) (sym (plain_text (take k rest))) ∙ sym (flat_map-append text_of so_far.units new);
+      text = taken ∙ ap (λ t. t ++ more_text) so_far.text ∙ ap (λ t. written_text so_far.units ++ (text_of found.escape ++ t)) (plain_text (take k rest)) ∙ sym (flat_map-append text_of so_far.units new);
       stops = subst (EndsAt (λ c. ends c || c == 92)) (sym left) stops;
       within = omega (arith, size, all);
     }

@@ -4,15 +4,14 @@ use Rattle.zone_name.proofs.Spelling.Answered.{one_verdict_cased}
 use Rattle.zone_name.specs.Name.{IsCasedName}
 use Rattle.zone_rdata.proofs.Choices.{Choice, Decided, each_or_not}
 use Rattle.zone_rdata.proofs.Numbers.TimeLaws.{one_time, time_or_not}
-use Rattle.zone_rdata.proofs.Words.OneWord.{class_or_not, same_or_not}
+use Rattle.zone_rdata.proofs.Words.OneWord.{class_or_not, word_or_not}
 use Rattle.zone_rdata.specs.Item.{bare, quoted}
 use Rattle.zone_rdata.specs.Limits.{greatest_ttl}
 use Rattle.zone_rdata.specs.Number.{IsTime}
 use Rattle.zone_text.specs.Outcome.{AreOctetItems}
 use Rattle.zone_text.specs.Records.{HasValue}
 use Rattle.zone_text.specs.Statements.{class, ttl}
-use Rattle.zone_words.proofs.Common.{AllByRecursion, AreOnOneLine, Bool, Entry, FurtherType, HasClass, IsCasedOrigin, IsClass, IsClassWord, IsFurtherRecord, IsFurtherWord, IsGeneric, Labels, List, MatchOption, NamesOrigin, None, Option, Parts, RawItem, Some, SpellsCased-faultless, Word, [], ap, arith, cases_lt, class_word, class_word_once, codes, directive, false, false≢true, further_names, further_type, if◌then◌else◌, in_class, includes, inl, inr, is_blank, latest, line_feeds_in, origin_items, owned, parts_in, refl, sets_origin, sets_ttl, statement_by, statement_of, subst, sym, true, unknown, unowned, ⊤, ℕ, ◌<◌, ◌==◌, ◌∙◌, ◌∷◌, ◌≡◌, ◌≤◌, ◌⊎◌}
-use Rattle.zone_words.proofs.Decided.Numbers.{word_or_not}
+use Rattle.zone_words.proofs.Common.{AllByRecursion, AreOnOneLine, Bool, Entry, FurtherType, HasClass, IsCasedOrigin, IsClass, IsClassWord, IsFurtherRecord, IsFurtherWord, Labels, List, MatchOption, NamesOrigin, None, Option, Parts, RawItem, Some, SpellsCased-faultless, Word, [], ap, arith, cases_lt, class_word, class_word_once, codes, directive, false, false≢true, further_names, further_type, if◌then◌else◌, in_class, includes, inl, inr, is_blank, latest, line_feeds_in, origin_items, owned, parts_in, refl, sets_origin, sets_ttl, statement_by, statement_of, subst, sym, true, unknown, unowned, ⊤, ℕ, ◌<◌, ◌==◌, ◌∙◌, ◌∷◌, ◌≡◌, ◌≤◌, ◌⊎◌}
 use Rattle.zone_words.proofs.FurtherWords.{IsWord, further_number_once, further_word_once, numbered}
 use Rattle.zone_words.proofs.Origins.{origin_once}
 
@@ -174,14 +173,6 @@ pub record_or_not : (before : List Entry) (entry : Entry) → RecordChoice befor
 record_or_not before entry = by_split before entry (parts_in (statement_of entry)) refl
 
 -- ---- its items
-
-pub generic_or_not : (items : List RawItem) → Decided (IsGeneric items)
-generic_or_not [] = inr (λ h. absurd (let e = h.1 in cc e))
-generic_or_not (quoted text ∷ rest) = inr (λ h. absurd (let e = h.1 in let first : quoted text ≡ bare (92 ∷ 35 ∷ []) = cc e in cc first))
-generic_or_not (bare text ∷ rest) = elim (same_or_not text (92 ∷ 35 ∷ [])) [
-  | inl same ↦ inl (rest, ap (λ t. bare t ∷ rest) same)
-  | inr other ↦ inr (λ h. other (let e = h.1 in let first : bare text ≡ bare (92 ∷ 35 ∷ []) = cc e in cc first))
-]
 
 pub on_one_line_or_not : (items : List RawItem) → Decided (AreOnOneLine items)
 on_one_line_or_not items = each_or_not (λ item. line_feeds_in item ≡ 0) (λ item. cases_eq (line_feeds_in item) 0) items

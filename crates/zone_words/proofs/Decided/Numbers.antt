@@ -1,15 +1,11 @@
 -- Numbers, and words that stand for numbers, are stated or have a fault.
-use Rattle.std.proofs.lemmas.List.{length-map}
-use Rattle.std.proofs.lemmas.List.{drop_at, take_at}
 use Rattle.std.specs.Int.{byte_len}
 use Rattle.zone_name.specs.Common.{EitherIs}
-use Rattle.zone_rdata.proofs.Choices.{Choice, Decided, choice_as}
+use Rattle.zone_rdata.proofs.Choices.{Choice, Decided}
 use Rattle.zone_rdata.proofs.Items.GenericLaws.{decimal_or_not}
-use Rattle.zone_rdata.proofs.Words.OneWord.{same_or_not}
-use Rattle.zone_rdata.proofs.Words.Tables.{no_row, row_is}
-use Rattle.zone_rdata.specs.Table.{ascends}
+use Rattle.zone_rdata.proofs.Words.OneWord.{mnemonic_or_not, word_or_not}
 use Rattle.zone_rdata.specs.Words.{is_meta}
-use Rattle.zone_words.proofs.Common.{Bool, IsAlgorithm, IsDecimal, IsInOctets, IsKind, IsMnemonic, IsNumberOrMnemonic, IsNumbered, IsTypeWord, IsWordAmong, List, Named, None, NumberFails, Option, Some, Width, [], algorithms, ap, arith, by_mnemonic, by_number, bytes_eq, cases_lt, certificate_types, codes, drop, false, false≢true, find, folded_label, further_algorithms, inl, inr, length, refl, registered_types, subst, sym, take, take-append-drop, to_be_bytes, true, w16, ℕ, ◌<◌, ◌^◌, ◌∙◌, ◌≡◌, ◌≤◌, ◌⊎◌}
+use Rattle.zone_words.proofs.Common.{Bool, IsAlgorithm, IsInOctets, IsKind, IsMnemonic, IsNumberOrMnemonic, IsTypeWord, IsWordAmong, List, NumberFails, Width, [], algorithms, arith, cases_lt, certificate_types, codes, false, false≢true, further_algorithms, inl, inr, refl, registered_types, subst, sym, to_be_bytes, true, w16, ℕ, ◌<◌, ◌^◌, ◌∙◌, ◌≡◌, ◌≤◌, ◌⊎◌}
 use Rattle.zone_words.proofs.TypeWords.{word_of_type_once}
 use Rattle.zone_words.specs.Kinds.Gateway.{FailsUpTo, StatesUpTo, no_digits, too_great}
 use Rattle.zone_words.specs.Kinds.Number.{no_number, too_large}
@@ -35,44 +31,7 @@ up_to_decided most octets_of text = elim (decimal_or_not text) [
   ]
 ]
 
--- ---- a mnemonic
-
-mnemonic_by : (rows : List Named) → ascends rows ≡ true → (word : List ℕ) (found : Option Named) → find (λ row. bytes_eq (folded_label word) (folded_label row.mnemonic)) rows ≡ found → Choice (IsMnemonic rows word)
-mnemonic_by rows up word None e = inr (no_row rows word e)
-mnemonic_by rows up word (Some row) e = inl (row.number, row_is rows up word row e)
-
-pub mnemonic_or_not : (rows : List Named) → ascends rows ≡ true → (word : List ℕ) → Choice (IsMnemonic rows word)
-mnemonic_or_not rows up word = mnemonic_by rows up word (find (λ row. bytes_eq (folded_label word) (folded_label row.mnemonic)) rows) refl
-
--- ---- a name and a number right after it
-
-front_length : (name word : List ℕ) (n : ℕ) (x : IsNumbered name word n) → length x.front ≡ length name
-front_length name word n x = grind (arith, length-map)
-
-front_is : (name word : List ℕ) (n : ℕ) (x : IsNumbered name word n) → take (length name) word ≡ x.front
-front_is name word n x = cc (take_at x.front x.digits (length name) (front_length name word n x))
-
-digits_are : (name word : List ℕ) (n : ℕ) (x : IsNumbered name word n) → drop (length name) word ≡ x.digits
-digits_are name word n x = cc (drop_at x.front x.digits (length name) (front_length name word n x))
-
-numbered_or_not : (name word : List ℕ) → Choice (IsNumbered name word)
-numbered_or_not name word =
-    let front = take (length name) word in
-    let digits = drop (length name) word in
-    elim (same_or_not (folded_label front) (folded_label name)) [
-      | inr other ↦ inr (λ n x. other (ap folded_label (front_is name word n x) ∙ x.named))
-      | inl same ↦ choice_as (λ n. n) (λ n h. record { front = front; digits = digits; parts = sym (take-append-drop (length name) word); named = same; number = h }) (λ none n x. none n (subst (λ t. IsDecimal t n) (sym (digits_are name word n x)) x.number)) (decimal_or_not digits)
-    ]
-
 -- ---- words
-
-word_by : (rows : List Named) (name word : List ℕ) → Choice (IsMnemonic rows word) → Choice (IsNumbered name word) → Choice (IsWordAmong rows name word)
-word_by rows name word (inl found) numbered = inl (found.0, by_mnemonic found.1)
-word_by rows name word (inr none) (inl found) = inl (found.0, by_number found.1)
-word_by rows name word (inr none) (inr none') = inr (λ n h. elim h [ by_mnemonic x ↦ none n x | by_number x ↦ none' n x ])
-
-pub word_or_not : (rows : List Named) (name : List ℕ) → ascends rows ≡ true → (word : List ℕ) → Choice (IsWordAmong rows name word)
-word_or_not rows name up word = word_by rows name word (mnemonic_or_not rows up word) (numbered_or_not name word)
 
 pub certificate_type_or_not : (word : List ℕ) → Choice (IsNumberOrMnemonic certificate_types word)
 certificate_type_or_not = word_or_not certificate_types [] refl

@@ -3,39 +3,16 @@ use Rattle.std.proofs.lemmas.Bool.{cases_eq}
 use Rattle.std.specs.declared.result.Result.TheVariants.{Err, Ok}
 use Rattle.hex.specs.Hex.{decode_sized}
 use Rattle.hex.specs.declared.error.FromHexError.{FromHexError}
-use Rattle.zone_rdata.proofs.Addresses.AddressParts.{HaveParts, parts_found, parts_listed, parts_unique}
-use Rattle.zone_rdata.proofs.Addresses.Cut.{split}
-use Rattle.zone_rdata.proofs.Choices.{Choice, choice_as, choice_both}
+use Rattle.zone_rdata.proofs.Addresses.AddressParts.{parts_unique}
+use Rattle.zone_rdata.proofs.Choices.{Choice}
 use Rattle.zone_rdata.specs.Address.{AreFourGroups, ArePartsOf}
-use Rattle.zone_rdata.specs.Machine.AddressReading.{IsGroupOf, IsLastPartOf}
-use Rattle.zone_words.proofs.Common.{List, Result, [], ap, arith, cases_lt, drop, false, inl, inr, length, length-append, refl, replicate, suc, subst, sym, take, take-append-drop, zero, ℕ, ◌++◌, ◌-◌, ◌<◌, ◌∙◌, ◌∷◌, ◌≡◌, ◌≤◌, ◌⊎◌}
+use Rattle.zone_words.proofs.Common.{List, Result, [], ap, arith, drop, false, inl, inr, length, length-append, refl, suc, subst, sym, take, take-append-drop, zero, ℕ, ◌++◌, ◌<◌, ◌∙◌, ◌∷◌, ◌≡◌, ◌≤◌, ◌⊎◌}
 use Rattle.zone_words.proofs.HexPairs.{ArePairs, ReadsPairs, are_pairs, eui_length, pair_length, pairs_more, take_last}
 use Rattle.zone_words.specs.Kinds.Eui.{IsPair, StatesEui}
 use Rattle.zone_words.specs.Machine.Pairs.{BeginsWithPair, IsCutPair}
+use Rattle.zone_rdata.proofs.Addresses.AddressChoice.{parts_or_not}
 
 -- ---- groups parted by colons
-
-group_by : (text : List ℕ) (found : Result (List ℕ) FromHexError) → decode_sized (replicate (4 - length text) 48 ++ text) 2 ≡ found → (0 < length text) ⊎ (length text ≤ 0) → (4 < length text) ⊎ (length text ≤ 4) → Choice (IsGroupOf text)
-group_by text (Err wrong) e some few = inr (λ octets is. absurd (let both = sym e ∙ is.value in cc))
-group_by text (Ok octets) e (inl some) (inr few) = inl (octets, record { some = some; few = few; value = e })
-group_by text (Ok octets) e (inr empty) few = inr (λ octets is. omega (arith, is.some, empty))
-group_by text (Ok octets) e some (inl long) = inr (λ octets is. omega (arith, is.few, long))
-
-group_or_not : (text : List ℕ) → Choice (IsGroupOf text)
-group_or_not text = group_by text (decode_sized (replicate (4 - length text) 48 ++ text) 2) refl (cases_lt 0 (length text)) (cases_lt 4 (length text))
-
-last_by : (text : List ℕ) → Choice (IsGroupOf text) → Choice (IsLastPartOf false text)
-last_by text (inl found) = inl (found.0, inl found.1)
-last_by text (inr none) = inr (λ octets h. elim h [ inl is ↦ none octets is | inr are ↦ absurd (let no = are.0 in cc) ])
-
-groups_or_not : (texts : List (List ℕ)) → Choice (HaveParts false texts)
-groups_or_not [] = inl ([], refl)
-groups_or_not (text ∷ []) = last_by text (group_or_not text)
-groups_or_not (text ∷ next ∷ texts) = choice_both (λ added more. added ++ more) (λ added more is have. (added, more, is, have, refl)) (λ octets have. ((have.0, have.2), (have.1, have.3))) (group_or_not text) (groups_or_not (next ∷ texts))
-
-parts_or_not : (text : List ℕ) → Choice (ArePartsOf false text)
-parts_or_not [] = inl ([], record { parts = []; each = tt; parted = refl; value = refl })
-parts_or_not (c ∷ text) = choice_as (λ octets. octets) (parts_listed false (c ∷ text)) (λ none octets are. none octets (parts_found false (c ∷ text) octets (omega arith) are)) (groups_or_not (split 58 (c ∷ text)))
 
 node_id_by : (text : List ℕ) → Choice (ArePartsOf false text) → Choice (AreFourGroups text)
 node_id_by text (inr none) = inr (λ octets are. none octets are.groups)
@@ -45,7 +22,7 @@ node_id_by text (inl found) = elim (cases_eq (length found.0) 8) [
 ]
 
 pub node_id_or_not : (text : List ℕ) → Choice (AreFourGroups text)
-node_id_or_not text = node_id_by text (parts_or_not text)
+node_id_or_not text = node_id_by text (parts_or_not false text)
 
 -- ---- pairs parted by hyphens
 

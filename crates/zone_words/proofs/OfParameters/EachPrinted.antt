@@ -50,7 +50,7 @@ taken_back n old blank named new added key len e f g =
 
 -- ---- one after another
 
-abbrev joined : List (List TouchingItem) → List TouchingItem
+abbrev pub joined : List (List TouchingItem) → List TouchingItem
 joined parts = flat_map (λ part. part) parts
 
 -- the parameters up to a place are printed
@@ -62,7 +62,7 @@ pub record HasPrinted (all done : List Sent) (old new : List ℕ) : Type 0 where
 pub none_printed : (all : List Sent) (old : List ℕ) → HasPrinted all [] old old
 none_printed all old = record { parts = []; each = tt; appended = sym (append-nil old) }
 
-touching_more : (items more : List TouchingItem) → written_touching (items ++ more) ≡ written_touching items ++ written_touching more
+pub touching_more : (items more : List TouchingItem) → written_touching (items ++ more) ≡ written_touching items ++ written_touching more
 touching_more items more = flat_map-append _ items more
 
 one_more : (all done : List Sent) (s : Sent) (old mid new : List ℕ) → HasPrinted all done old mid → AppendsParameter all s mid new → HasPrinted all (done ++ s ∷ []) old new

@@ -1,10 +1,11 @@
 -- Parameters that are printed state their octets.
-use Rattle.zone_words.proofs.Common.{AllByRecursion, AllByRecursion-append, AllZip, AreOnce, Ascend, AscendAbove, BeginWith, BeginWithTouchingQuote, Bool, IsNew, IsPermutation, IsPermutation-refl, IsShort, IsThere, Key, List, Numbered, Parameter, ParameterText, Sent, StateEach, StatesParameter, StatesParameters, TouchingItem, [], all_required, alone, ap, arith, bare_value, false, false≢true, flat_map, inl, inr, key_text, map, quoted_value, refl, sent, subst, sym, ℕ, ◌++◌, ◌<◌, ◌∷◌, ◌≡◌, ◌≢◌}
+use Rattle.zone_words.proofs.Common.{AllByRecursion, AllByRecursion-append, AllZip, AreOnce, Ascend, AscendAbove, BeginWith, BeginWithTouchingQuote, Bool, IsNew, IsPermutation, IsPermutation-refl, IsShort, IsThere, Key, List, Numbered, Parameter, ParameterText, Sent, StateEach, StatesParameter, StatesParameters, TouchingItem, [], all_required, alone, ap, arith, bare_value, false, false≢true, inl, inr, key_text, map, quoted_value, refl, sent, subst, sym, ℕ, ◌++◌, ◌<◌, ◌∷◌, ◌≡◌, ◌≢◌}
 use Rattle.zone_rdata.proofs.Common.{each_weaker}
 use Rattle.zone_words.proofs.OfParameters.PrintedTexts.{key_octets, text_in, usual_number, value_printed}
 use Rattle.zone_words.specs.Parameters.Keys.{number_of}
 use Rattle.zone_words.specs.Parameters.Printed.{IsAmong, IsSendable, PrintsParameter, PrintsParameters, PrintsValue, ValueText, by_name, by_number, in_quotes, left_out, parameter_items, unquoted, usual_key}
 use Rattle.zone_words.specs.Parameters.Text.{HasNoEquals}
+use Rattle.zone_words.proofs.OfParameters.EachPrinted.{joined}
 
 -- ---- one parameter
 
@@ -43,9 +44,6 @@ parameter_stated all s items sendable own (by_name value printed) = stated_by al
 parameter_stated all s items sendable own (by_number value none printed) = stated_by all s (Numbered s.number) value sendable own refl printed
 
 -- ---- one after another
-
-abbrev joined : List (List TouchingItem) → List TouchingItem
-joined parts = flat_map (λ part. part) parts
 
 abbrev first_touches : List TouchingItem → Bool
 first_touches [] = false

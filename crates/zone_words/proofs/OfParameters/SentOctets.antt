@@ -1,10 +1,9 @@
 -- The octets of parameters whose keys ascend, taken apart.
-use Rattle.zone_words.proofs.Common.{AllByRecursion, AllByRecursion-append, Ascend, AscendAbove, List, Sent, [], ap, ap₂, append-nil, append_assoc, arith, flat_map, flat_map_more, length, map, refl, sent_octets, subst, sym, to_be_bytes, w16, ℕ, ◌++◌, ◌+◌, ◌<◌, ◌≤◌, ◌^◌, ◌∙◌, ◌∷◌, ◌≡◌}
-use Rattle.std.proofs.lemmas.Nat.{from_be_bytes-to_be_bytes_2}
-use Rattle.std.specs.Int.{from_be_bytes}
+use Rattle.zone_words.proofs.Common.{AllByRecursion, AllByRecursion-append, Ascend, AscendAbove, List, Sent, [], ap, ap₂, append-nil, append_assoc, arith, flat_map, flat_map_more, length, map, refl, sent_octets, subst, sym, to_be_bytes, w16, ℕ, ◌++◌, ◌+◌, ◌<◌, ◌≤◌, ◌∙◌, ◌∷◌, ◌≡◌}
 use Rattle.zone_words.proofs.OfParameters.Marked.{same_parts}
 use Rattle.zone_words.specs.Machine.PrintedParameters.{IsSentFront}
 use Rattle.zone_words.specs.Parameters.Printed.{HaveOctets, IsSendable}
+use Rattle.zone_words.proofs.Numbers.{number_once}
 
 -- each key is greater than the one before it, and the first is `least` or more
 abbrev pub AscendFrom : ℕ → List Sent → Type 0
@@ -34,9 +33,6 @@ pub none_sent : (octets : List ℕ) → HasSent octets octets [] 0
 none_sent octets = record { whole = refl; each = tt; ascend = tt; below = tt; only = λ all are. record { more = all; each = are.each; ascend = from_first all are.ascend; value = are.value } }
 
 -- ---- one parameter at the front
-
-number_once : (a b : ℕ) → a < 2 ^ 16 → b < 2 ^ 16 → to_be_bytes w16 a ≡ to_be_bytes w16 b → a ≡ b
-number_once a b low less e = sym (from_be_bytes-to_be_bytes_2 a low) ∙ ap (from_be_bytes w16) e ∙ from_be_bytes-to_be_bytes_2 b less
 
 abbrev made : ℕ → List ℕ → Sent
 made n o = record { number = n; octets = o }

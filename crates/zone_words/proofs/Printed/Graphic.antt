@@ -4,11 +4,11 @@ use Rattle.zone_name.proofs.Texts.Bare.{StandsBare, bare_append, bare_octets, is
 use Rattle.zone_rdata.proofs.Common.{IsAddressOctet, StandsInQuotes, each_weaker}
 use Rattle.zone_rdata.proofs.Items.GenericLaws.{decimal-is}
 use Rattle.zone_rdata.proofs.Strings.StringLaws.{printed_stands}
-use Rattle.zone_rdata.proofs.Texts.Standing.{are_bare, bare_tested}
+use Rattle.zone_rdata.proofs.Texts.Standing.{AreBare, are_bare, bare_tested, hex_bare, tested_each}
 use Rattle.zone_rdata.specs.Item.{bare, quoted}
 use Rattle.zone_rdata.specs.Strings.{inside_text, is_quote, is_shown, unit_text}
 use Rattle.zone_rdata.specs.Words.{word_or_numbered}
-use Rattle.zone_words.proofs.Common.{All-from_recursion, AllByRecursion, AllByRecursion-append, AllPass-from_list_all, AreOctets, Bool, IsUnit, List, Named, None, Option, RawItem, Some, [], and_parts, append-nil, arith, each_mnemonic, encode_lower, encode_with, false, flat_map-append, if◌then◌else◌, join_with_byte, length, list_all, lower_digits, mnemonic_among, nat_lt, nat_tests, recursion_from_All, refl, subst, true, ℕ, ◌%◌, ◌++◌, ◌+◌, ◌/◌, ◌<◌, ◌==◌, ◌^◌, ◌||◌, ◌∷◌, ◌≡◌, ◌≤◌, ◌≢◌}
+use Rattle.zone_words.proofs.Common.{AllByRecursion, AllByRecursion-append, AreOctets, Bool, IsUnit, List, Named, None, Option, RawItem, Some, [], and_parts, append-nil, arith, each_mnemonic, encode_lower, encode_with, false, flat_map-append, if◌then◌else◌, join_with_byte, length, list_all, mnemonic_among, nat_lt, nat_tests, refl, subst, true, ℕ, ◌%◌, ◌++◌, ◌+◌, ◌/◌, ◌<◌, ◌==◌, ◌^◌, ◌||◌, ◌∷◌, ◌≡◌, ◌≤◌, ◌≢◌}
 
 -- spaces and the graphic octets of ASCII
 abbrev pub IsGraphic : ℕ → Type 0
@@ -33,22 +33,16 @@ IsGraphicItem (quoted text) = IsGraphicInside text
 
 -- ---- octets that stand by themselves
 
-abbrev pub AreBare : List ℕ → Type 0
-AreBare text = AllByRecursion (λ c. is_bare c ≡ true) text
-
 graphic_bare : (c : ℕ) → is_bare c ≡ true → IsGraphic c
 graphic_bare c e = grind (arith, nat_tests)
 
 pub graphic_octets : (text : List ℕ) → 0 < length text → AreBare text → IsGraphicText text
 graphic_octets text some each = record { stands = bare_octets text some each; graphic = each_weaker IsGraphic graphic_bare text each }
 
-pub tested_bare : (text : List ℕ) → list_all is_bare text ≡ true → AreBare text
-tested_bare text e = recursion_from_All (λ c. is_bare c ≡ true) text (AllPass-from_list_all is_bare text e)
-
 pub graphic_tested : (text : List ℕ) → are_bare text ≡ true → IsGraphicText text
 graphic_tested text e =
     let both : (nat_lt 0 (length text) ≡ true) × (list_all is_bare text ≡ true) = grind (arith, and_parts) in
-    record { stands = bare_tested text e; graphic = each_weaker IsGraphic graphic_bare text (tested_bare text both.1) }
+    record { stands = bare_tested text e; graphic = each_weaker IsGraphic graphic_bare text (tested_each text both.1) }
 
 -- ---- texts together
 
@@ -70,18 +64,10 @@ graphic_decimal n short =
     let is = decimal-is n short in
     graphic_octets (decimal n) is.some (each_weaker (λ c. is_bare c ≡ true) (λ c digit. grind (arith, nat_tests)) (decimal n) is.digits)
 
-bare_hex : (octets : List ℕ) → AreOctets octets → AreBare (encode_lower octets)
-unfolding encode_with
-bare_hex [] low = tt
-bare_hex (c ∷ octets) low =
-    let fits : c < 256 = low.0 in
-    let digits = All-from_recursion (λ c. is_bare c ≡ true) lower_digits (tested_bare lower_digits refl) in
-    (digits (c / 16) 0 (omega arith), (digits (c % 16) 0 (omega arith), bare_hex octets low.1))
-
 pub graphic_hex : (octets : List ℕ) → 0 < length octets → AreOctets octets → IsGraphicText (encode_lower octets)
 unfolding encode_with
 graphic_hex [] some low = absurd (omega arith)
-graphic_hex (c ∷ octets) some low = graphic_octets (encode_lower (c ∷ octets)) (omega arith) (bare_hex (c ∷ octets) low)
+graphic_hex (c ∷ octets) some low = graphic_octets (encode_lower (c ∷ octets)) (omega arith) (hex_bare (c ∷ octets) low)
 
 pub graphic_address : (text : List ℕ) → 0 < length text → AllByRecursion IsAddressOctet text → IsGraphicText text
 graphic_address text some each = graphic_octets text some (each_weaker (λ c. is_bare c ≡ true) (λ c given. grind arith) text each)

@@ -12,7 +12,7 @@ use Rattle.zone_rdata.proofs.Addresses.AddressParts.{ipv4_some}
 use Rattle.zone_rdata.proofs.Common.{each_weaker}
 use Rattle.zone_rdata.specs.Address.{ipv4_text, ipv6_text}
 use Rattle.zone_words.proofs.Common.{All-from_recursion, AllByRecursion, AllByRecursion-append, AllByRecursion-back, AllByRecursion-front, AllZip, AreOctets, Bool, Labels, List, Some, Width, [], arith, byte_len, certificate_types, codes, encode_lower, false, flat_map, if◌then◌else◌, length, length_all_zip, map, mnemonic_among, nat_tests, refl, registered_types, replicate, subst, suc, sym, true, w16, w32, w8, zero, ℕ, ◌%◌, ◌*◌, ◌+◌, ◌/◌, ◌<◌, ◌^◌, ◌∷◌, ◌≡◌, ◌≤◌}
-use Rattle.zone_words.proofs.Printed.Graphic.{AreBare, AreGraphic, IsGraphic, IsGraphicText, graphic_address, graphic_append, graphic_decimal, graphic_hex, graphic_join, graphic_octets, graphic_tested, graphic_word, tested_bare}
+use Rattle.zone_words.proofs.Printed.Graphic.{AreGraphic, IsGraphic, IsGraphicText, graphic_address, graphic_append, graphic_decimal, graphic_hex, graphic_join, graphic_octets, graphic_tested, graphic_word}
 use Rattle.zone_words.proofs.Printed.Numbers.{short}
 use Rattle.zone_words.proofs.Printed.ReadNames.{name_printed_stands}
 use Rattle.zone_words.specs.Kinds.Base64.{IsBase64}
@@ -30,6 +30,7 @@ use Rattle.zone_words.specs.Kinds.Word.{PrintsCertificateType, PrintsType, type_
 use Rattle.zone_words.specs.PrintedData.{PrintsBare}
 use Rattle.zone_words.specs.declared.field.BareKind.{BareKind}
 use Rattle.zone_words.specs.declared.field.BareKind.TheVariants.{AddressType, Algorithm, CertificateType, Discovery, Eui48, Eui64, Hash, HostIdentityTag, Ipv4, Ipv6, Name, NoAddress, NodeId, PublicKey, RecordType, Salt, Tag, Time, U16, U32, U8}
+use Rattle.zone_rdata.proofs.Texts.Standing.{AreBare, tested_each}
 
 -- ---- numbers
 
@@ -92,18 +93,18 @@ unfolding encode_symbols
 symbols_bare [] low = tt
 symbols_bare (a ∷ []) low =
     let a_low : a < 256 = low.0 in
-    let symbol = All-from_recursion (λ c. is_bare c ≡ true) standard.encode_table (tested_bare standard.encode_table refl) in
+    let symbol = All-from_recursion (λ c. is_bare c ≡ true) standard.encode_table (tested_each standard.encode_table refl) in
     (symbol (a / 4) 0 (omega arith), (symbol (a % 4 * 16) 0 (omega arith), tt))
 symbols_bare (a ∷ b ∷ []) low =
     let a_low : a < 256 = low.0 in
     let b_low : b < 256 = low.1.0 in
-    let symbol = All-from_recursion (λ c. is_bare c ≡ true) standard.encode_table (tested_bare standard.encode_table refl) in
+    let symbol = All-from_recursion (λ c. is_bare c ≡ true) standard.encode_table (tested_each standard.encode_table refl) in
     (symbol (a / 4) 0 (omega arith), (symbol (a % 4 * 16 + b / 16) 0 (omega arith), (symbol (b % 16 * 4) 0 (omega arith), tt)))
 symbols_bare (a ∷ b ∷ c ∷ octets) low =
     let a_low : a < 256 = low.0 in
     let b_low : b < 256 = low.1.0 in
     let c_low : c < 256 = low.1.1.0 in
-    let symbol = All-from_recursion (λ c. is_bare c ≡ true) standard.encode_table (tested_bare standard.encode_table refl) in
+    let symbol = All-from_recursion (λ c. is_bare c ≡ true) standard.encode_table (tested_each standard.encode_table refl) in
     (symbol (a / 4) 0 (omega arith), (symbol (a % 4 * 16 + b / 16) 0 (omega arith), (symbol (b % 16 * 4 + c / 64) 0 (omega arith), (symbol (c % 64) 0 (omega arith), symbols_bare octets low.1.1.1))))
 
 equals_bare : (n : ℕ) → AreBare (replicate n 61)

@@ -1,10 +1,9 @@
 -- Numbers and words that are printed state what they are printed for.
-use Rattle.std.specs.Prelude.{decimal}
 use Rattle.zone_rdata.proofs.Items.GenericLaws.{decimal-is}
-use Rattle.zone_rdata.specs.Words.{word_or_numbered}
-use Rattle.zone_words.proofs.Common.{IsDecimal, IsInOctets, IsNumbered, IsWordAmong, List, Named, None, Option, Some, Width, [], arith, by_mnemonic, by_number, byte_len, certificate_types, codes, inl, mnemonic_among, refl, registered_types, subst, sym, w16, w32, w8, ℕ, ◌++◌, ◌<◌, ◌^◌, ◌≡◌, ◌≤◌}
+use Rattle.zone_words.proofs.Common.{IsDecimal, IsInOctets, IsNumbered, IsWordAmong, List, Width, [], arith, by_number, byte_len, certificate_types, codes, inl, mnemonic_among, refl, registered_types, subst, sym, w16, w32, w8, ℕ, ◌<◌, ◌^◌, ◌≤◌}
 use Rattle.zone_words.specs.Kinds.Number.{PrintsNumber, PrintsU8, PrintsU16, PrintsU32, StatesU8, StatesU16, StatesU32}
 use Rattle.zone_words.specs.Kinds.Word.{PrintsAlgorithm, PrintsCertificateType, PrintsType, StatesAlgorithm, StatesCertificateType, StatesType}
+use Rattle.zone_rdata.proofs.Texts.PrintedWords.{numbered_printed, word_of}
 
 -- ---- numbers
 
@@ -30,18 +29,10 @@ u32_printed_states text octets p = number_states w32 text octets (omega arith) p
 
 -- ---- words
 
-numbered_by : (name : List ℕ) (n : ℕ) → n < 2 ^ 64 → IsNumbered name (name ++ decimal n) n
-numbered_by name n few = record { front = name; digits = decimal n; parts = refl; named = refl; number = decimal-is n few }
-
--- the word of a number, by the row that it has or not
-word_states : (rows : List Named) (name : List ℕ) (row : Option (List ℕ)) (n : ℕ) → mnemonic_among rows n ≡ row → n < 2 ^ 64 → IsWordAmong rows name (word_or_numbered row name n) n
-word_states rows name None n e few = by_number (numbered_by name n few)
-word_states rows name (Some word) n e few = by_mnemonic (record { name = word; row = e; same = refl })
-
 pub algorithm_printed_states : (text octets : List ℕ) → PrintsAlgorithm text octets → StatesAlgorithm text octets
 algorithm_printed_states text octets p = record {
   number = p.number;
-  stated = inl (by_number (subst (λ t. IsNumbered [] t p.number) (sym p.stated) (numbered_by [] p.number (short w8 p.number (omega arith) p.fits))));
+  stated = inl (by_number (subst (λ t. IsNumbered [] t p.number) (sym p.stated) (numbered_printed [] p.number (short w8 p.number (omega arith) p.fits))));
   fits = p.fits;
   value = p.value;
 }
@@ -49,7 +40,7 @@ algorithm_printed_states text octets p = record {
 pub certificate_printed_states : (text octets : List ℕ) → PrintsCertificateType text octets → StatesCertificateType text octets
 certificate_printed_states text octets p = record {
   number = p.number;
-  stated = subst (λ t. IsWordAmong certificate_types [] t p.number) (sym p.stated) (word_states certificate_types [] (mnemonic_among certificate_types p.number) p.number refl (short w16 p.number (omega arith) p.fits));
+  stated = subst (λ t. IsWordAmong certificate_types [] t p.number) (sym p.stated) (word_of certificate_types [] (mnemonic_among certificate_types p.number) p.number refl (short w16 p.number (omega arith) p.fits));
   fits = p.fits;
   value = p.value;
 }
@@ -58,7 +49,7 @@ pub type_printed_states : (word octets : List ℕ) → PrintsType word octets �
 type_printed_states word octets p = record {
   number = p.number;
   stated = record {
-    named = subst (λ t. IsWordAmong registered_types (codes "TYPE") t p.number) (sym p.stated.0) (word_states registered_types (codes "TYPE") (mnemonic_among registered_types p.number) p.number refl (short w16 p.number (omega arith) p.fits));
+    named = subst (λ t. IsWordAmong registered_types (codes "TYPE") t p.number) (sym p.stated.0) (word_of registered_types (codes "TYPE") (mnemonic_among registered_types p.number) p.number refl (short w16 p.number (omega arith) p.fits));
     kind = p.stated.1;
   };
   fits = p.fits;

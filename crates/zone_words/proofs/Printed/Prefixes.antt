@@ -1,7 +1,5 @@
 -- Prefixes of addresses as they are printed.
 use Rattle.std.proofs.Common.{decimal}
-use Rattle.std.proofs.lemmas.Nat.{from_be_bytes-to_be_bytes_2}
-use Rattle.std.specs.Int.{from_be_bytes}
 use Rattle.zone_rdata.proofs.Addresses.AddressLaws.{ipv4_printed, ipv6_printed}
 use Rattle.zone_rdata.proofs.Addresses.AddressOctets.{ipv4_bytes, ipv4_count, ipv6_bytes, ipv6_count}
 use Rattle.zone_rdata.proofs.Items.GenericLaws.{decimal-is}
@@ -15,6 +13,7 @@ use Rattle.zone_words.specs.Printed.{NoFront, NoItems, PrintsAll, PrintsFront, a
 use Rattle.zone_words.specs.declared.kinds.prefixes.Address.{Address}
 use Rattle.zone_words.specs.declared.kinds.prefixes.Address.TheVariants.{Ipv4, Ipv6}
 use Rattle.zone_words.specs.declared.kinds.prefixes.Prefix.{Prefix}
+use Rattle.zone_words.proofs.Numbers.{number_once}
 
 -- ---- addresses
 
@@ -172,15 +171,11 @@ pub record SameHead (octets : List ℕ) (family bits count : ℕ) (rest : List �
 same_octets : (a b c d e f g h : ℕ) (rest more : List ℕ) → a ∷ b ∷ c ∷ d ∷ rest ≡ e ∷ f ∷ g ∷ h ∷ more → (a ∷ b ∷ [] ≡ e ∷ f ∷ []) × (c ≡ g) × (d ≡ h) × (rest ≡ more)
 same_octets a b c d e f g h rest more same = (cc, cc, cc, cc)
 
-same_number : (a b : ℕ) → a < 2 ^ 16 → b < 2 ^ 16 → to_be_bytes w16 a ≡ to_be_bytes w16 b → a ≡ b
-same_number a b small few e =
-    sym (from_be_bytes-to_be_bytes_2 a small) ∙ ap (λ o. from_be_bytes w16 o) e ∙ from_be_bytes-to_be_bytes_2 b few
-
 pub same_head : (octets rest : List ℕ) (family bits count : ℕ) → family < 65536 → octets ≡ head family bits count rest → (s : Seen octets) → SameHead octets family bits count rest s
 same_head octets rest family bits count small whole s =
     let e = same_octets _ _ _ _ _ _ _ _ rest (s.part ++ s.after) (sym whole ∙ s.whole) in
     record {
-      family_is = same_number family (family_of s.prefix.address) (omega arith) (family_small s.prefix.address) e.0;
+      family_is = number_once family (family_of s.prefix.address) (omega arith) (family_small s.prefix.address) e.0;
       bits_are = e.1;
       counted = ap (λ n. n % 128) e.2 ∙ sign_dropped s.prefix.negated (length s.part) (part_small s.prefix.address s.part s.address s.trimmed);
       rest_is = e.3;

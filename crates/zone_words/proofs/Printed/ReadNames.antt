@@ -1,19 +1,12 @@
 -- A name that is printed is spelled under every origin, and stands as a bare item.
-use Rattle.std.proofs.Common.{map, rules}
-use Rattle.zone_words.proofs.Common.{AllByRecursion, AreOctets, Bool, IsUnit, Labels, List, Option, Some, SpellsCased, Written, [], append-nil, append_assoc, arith, flat_map, length-map, refl, subst, sym, written_octets, written_text, ℕ, ◌++◌, ◌<◌, ◌∷◌, ◌≡◌}
-use Rattle.zone_name.proofs.Texts.Bare.{StandsBare, bare_append, bare_octets, bare_unit, not_bare}
-use Rattle.zone_name.proofs.Texts.Lawful.{printed_text, value_by, written_by}
+use Rattle.std.proofs.Common.{map}
+use Rattle.zone_words.proofs.Common.{AllByRecursion, AreOctets, IsUnit, Labels, List, Option, Some, SpellsCased, [], append-nil, append_assoc, arith, flat_map, length-map, refl, subst, sym, written_octets, written_text, ℕ, ◌++◌, ◌∷◌, ◌≡◌}
+use Rattle.zone_name.proofs.Texts.Bare.{StandsBare, bare_append, bare_octet, bare_octets}
+use Rattle.zone_name.proofs.Texts.Lawful.{printed_octet, printed_text, value_by, written_is}
 use Rattle.zone_name.specs.Name.{IsCasedLabel, IsCasedName}
 use Rattle.zone_name.specs.Spelling.{IsWrittenLabel, absolute, dotted, is_dot, kept, root}
 use Rattle.zone_name.specs.Text.{is_printed, is_special, label_text, name_text, octet_text}
 use Rattle.zone_words.specs.Kinds.Name.{PrintsName, StatesName}
-
-abbrev printed_octet : ℕ → Written
-printed_octet c = written_by (is_special c) (is_printed c) c
-
-written_is : (special printed : Bool) (c : ℕ) → c < 256 → is_special c ≡ special → IsUnit is_dot (written_by special printed c)
-unfolding written_by
-written_is special printed c h e = search rules
 
 label_written : (label : List ℕ) → AreOctets label → AllByRecursion (IsUnit is_dot) (map printed_octet label) × (written_text (map printed_octet label) ≡ flat_map octet_text label) × (written_octets (map printed_octet label) ≡ label)
 label_written [] each = (tt, refl, refl)
@@ -41,18 +34,10 @@ name_printed_states origin text octets printed =
 
 -- ---- outside quotes
 
-bare_by : (special printed : Bool) (c : ℕ) → c < 256 → is_special c ≡ special → is_printed c ≡ printed → IsUnit not_bare (written_by special printed c)
-unfolding written_by
-bare_by special printed c low s p = search rules
-
-octet_stands : (c : ℕ) → c < 256 → StandsBare (octet_text c)
-octet_stands c low =
-    subst StandsBare (printed_text (is_special c) (is_printed c) c) (bare_unit (written_by (is_special c) (is_printed c) c) (bare_by (is_special c) (is_printed c) c low refl refl))
-
 label_stands : (label : List ℕ) → AreOctets label → StandsBare (label_text label)
 label_stands [] each = bare_octets (46 ∷ []) (omega arith) (refl, tt)
 label_stands (c ∷ label) each =
-    subst StandsBare (sym (append_assoc (octet_text c) (flat_map octet_text label) (46 ∷ []))) (bare_append (octet_text c) (label_text label) (octet_stands c each.0) (label_stands label each.1))
+    subst StandsBare (sym (append_assoc (octet_text c) (flat_map octet_text label) (46 ∷ []))) (bare_append (octet_text c) (label_text label) (bare_octet c each.0) (label_stands label each.1))
 
 labels_stand : (label : List ℕ) (labels : Labels) → IsCasedLabel label → AllByRecursion IsCasedLabel labels → StandsBare (label_text label ++ flat_map label_text labels)
 labels_stand label [] is each = subst StandsBare (sym (append-nil (label_text label))) (label_stands label is.each)

@@ -1,8 +1,9 @@
-use Rattle.std.proofs.Common.{ℕ, get_or, leb, cond, map, refl, ap, ◌∙◌, rules, w8, Fits}
+use Rattle.std.proofs.Common.{Fits, ap, cond, get_or, leb, map, refl, rules, sym, w8, ℕ, ◌∙◌}
 use Rattle.zone_name.proofs.Common.{chunk-fits, folded_octet, length-chunk, map-map, splat_is_map, zip2_of_maps, zip2_splat}
-use Rattle.zone_name.proofs.InOctets.OctetLanes.{chosen, itself, same_lanes}
+use Rattle.zone_name.proofs.InOctets.OctetLanes.{chosen, same_lanes}
 use Rattle.zone_name.proofs.lanes.fold_lanes.Goals as goal
 use lib.Lanes.{chunk, put_chunk, top}
+use Rattle.std.proofs.lemmas.List.{map-id}
 
 pub returns : goal.returns
 returns c =
@@ -10,7 +11,7 @@ returns c =
     let long = length-chunk c.args.at 16 c.args.octets.now c.requires in
     let fits : (k : ℕ) → Fits w8 (get_or c.args.octets.now k 0) = search rules in
     let capitals = zip2_of_maps _ _ _ v
-    (zip2_of_maps (λ a b. cond (leb a b) 255 0) _ _ v (splat_is_map v 16 65 long) (itself v)) (zip2_splat _ v 16 90 long) in
+    (zip2_of_maps (λ a b. cond (leb a b) 255 0) _ _ v (splat_is_map v 16 65 long) (sym (map-id v))) (zip2_splat _ v 16 90 long) in
     let bits = chosen _ _ _ v (ap (map (top 7)) capitals ∙ map-map (top 7) _ v) (splat_is_map v 16 32 long) (splat_is_map v 16 0 long) in
     ap (put_chunk c.args.at c.args.octets.now)
-    (zip2_of_maps _ _ _ v (itself v) bits ∙ same_lanes _ folded_octet v (chunk-fits w8 c.args.at 16 c.args.octets.now fits) refl)
+    (zip2_of_maps _ _ _ v (sym (map-id v)) bits ∙ same_lanes _ folded_octet v (chunk-fits w8 c.args.at 16 c.args.octets.now fits) refl)
