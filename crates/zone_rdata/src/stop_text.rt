@@ -125,3 +125,5 @@ fn push_number<S: Sink>(words: &[u8], number: u64, out: &mut S) -> Result<(), S:
 impl Error for Stop {}
 
 impl Error for Failing {}
+
+impl Error for Fault {}
