@@ -1,5 +1,5 @@
 -- Each ZONEMD record at the apex of a zone has a verdict.
-use Rattle.zone_set.proofs.Common.{[], ◌≡◌, ◌≢◌, ℕ, ◌≤◌, ◌-◌, List, ◌∷◌, length, length-append, drop, take, refl, sym, ap, ◌∙◌, subst, arith, inl, inr, ⊎_elim, ◌⊎◌, Has, IsZone, Record, bytes_decides}
+use Rattle.zone_set.proofs.Common.{[], ◌≡◌, ◌≢◌, ℕ, ◌≤◌, ◌-◌, List, ◌∷◌, length, length-append, drop, take, refl, sym, ap, ◌∙◌, subst, arith, inl, inr, ⊎_elim, Has, IsZone, Record, bytes_decides}
 use Rattle.std.proofs.lemmas.Bool.{le-leb, leb-true}
 use Rattle.std.proofs.Math.Dec.{leb}
 use Rattle.std.proofs.lemmas.Bool.Decides.{Decides-eqb}
