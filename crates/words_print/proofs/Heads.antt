@@ -1,5 +1,5 @@
 -- What stands before the class word on a line of a canonical text.
-use Rattle.std.proofs.Common.{◌≡◌, ℕ, suc, get_or, ◌<◌, ◌==◌, Bool, true, false, List, [], ◌∷◌, ◌++◌, length, map, refl, ap, arith, ◌∙◌}
+use Rattle.std.proofs.Common.{◌≡◌, ℕ, suc, get_or, ◌<◌, ◌==◌, Bool, true, List, [], ◌∷◌, ◌++◌, length, map, refl, ap, arith, ◌∙◌}
 use Rattle.std.proofs.lemmas.Bool.Decides.{nat_tests}
 use Rattle.std.specs.List.{AllByRecursion}
 use Rattle.std.specs.Prelude.{IfSome, None, Option, Some, is_some}
@@ -19,10 +19,6 @@ plain_bare text some each = record { units = map plain text; is = word_token tex
 
 pub owner_and_ttl : (octets owner rest ttl back : List ℕ) → octets ≡ owner ++ 32 ∷ rest → rest ≡ ttl ++ 32 ∷ back → back ≡ [] → octets ≡ owner ++ 32 ∷ (ttl ++ 32 ∷ [])
 owner_and_ttl octets owner rest ttl back one two none = one ∙ ap (λ t. owner ++ 32 ∷ t) (two ∙ ap (λ t. ttl ++ 32 ∷ t) none)
-
-pub some_text : (text : List ℕ) (empty : Bool) → empty ≡ (length text == 0) → empty ≡ false → 0 < length text
-some_text [] empty is fails = absurd cc
-some_text (c ∷ text) empty is fails = omega arith
 
 pub each_plain : (text : List ℕ) → ((k : ℕ) → k < length text → IsPlainOctet (get_or text k 0)) → AllByRecursion IsPlainOctet text
 each_plain [] each = tt

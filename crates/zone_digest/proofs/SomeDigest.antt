@@ -18,13 +18,14 @@ use Rattle.zone_digest.proofs.SetOrder.{same_covers}
 use Rattle.zone_digest.proofs.Sets.{lower_as, record_same}
 use Rattle.zone_digest.proofs.Soa.{digest_total}
 use Rattle.zone_rdata.proofs.Choices.{Decided, both_or_not, either_or_not, tested_or_not}
+use Rattle.zone_rdata.proofs.Words.OneWord.{same_or_not}
 
 -- ---- a record that is left out
 left_out : (apex : Labels) (r : Record) → Decided (IsLeftOut apex r)
 left_out apex r =
     both_or_not (tested_or_not _ (pointwise_decides bytes_decides r.owner apex))
     (either_or_not (tested_or_not _ (Decides-eqb r.kind 63))
-    (both_or_not (tested_or_not _ (Decides-eqb r.kind 46)) (tested_or_not _ (bytes_decides (take 2 r.octets) (0 ∷ 63 ∷ [])))))
+    (both_or_not (tested_or_not _ (Decides-eqb r.kind 46)) (same_or_not (take 2 r.octets) (0 ∷ 63 ∷ []))))
 
 -- ---- the canonical forms
 form_of : (r : Record) → IsRecord r → (low : Record) × IsLoweredRecord r low

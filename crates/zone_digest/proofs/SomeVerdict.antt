@@ -1,5 +1,5 @@
 -- Each ZONEMD record at the apex of a zone has a verdict.
-use Rattle.zone_set.proofs.Common.{[], ◌≡◌, ◌≢◌, ℕ, ◌≤◌, ◌-◌, List, ◌∷◌, length, length-append, drop, take, refl, sym, ap, ◌∙◌, subst, arith, inl, inr, ⊎_elim, ◌⊎◌, Has, IsZone, Record, bytes_decides}
+use Rattle.zone_set.proofs.Common.{[], ◌≡◌, ◌≢◌, ℕ, ◌≤◌, ◌-◌, List, ◌∷◌, length, length-append, drop, take, refl, sym, ap, ◌∙◌, subst, arith, inl, inr, ⊎_elim, Has, IsZone, Record, bytes_decides}
 use Rattle.std.proofs.lemmas.Bool.{le-leb, leb-true}
 use Rattle.std.proofs.Math.Dec.{leb}
 use Rattle.std.proofs.lemmas.Bool.Decides.{Decides-eqb}
@@ -19,6 +19,7 @@ use Rattle.zone_digest.proofs.SoaNumbers.{soa_numbers}
 use Rattle.zone_digest.proofs.SomeDigest.{some_digest}
 use Rattle.zone_digest.proofs.Zonemds.{one_ttl, the_serial}
 use Rattle.zone_rdata.proofs.Choices.{Decided, tested_or_not}
+use Rattle.zone_rdata.proofs.Words.OneWord.{same_or_not}
 
 -- what is settled of one thing is so of another that holds exactly then
 carried : {P Q : Type 0} → (P → Q) → (Q → P) → Decided P → Decided Q
@@ -104,7 +105,7 @@ module _ (z : Zone) (is : IsZone z) where
   serial_by (first ∷ others) known serial =
       let numbers = drop (length first.octets - 20) first.octets in
       let told = the_serial z is first others known numbers (take 4 numbers) (soa_numbers z is first others known) refl refl serial in
-      carried told.1 told.0 (tested_or_not _ (bytes_decides serial (take 4 numbers)))
+      carried told.1 told.0 (same_or_not serial (take 4 numbers))
 
   -- ---- another record
   module _ (r : Record) (f : Fields) where
@@ -112,7 +113,7 @@ module _ (z : Zone) (is : IsZone z) where
     IsLike s = (s.owner ≡ z.apex) × (s.kind ≡ 63) × (s.octets ≢ r.octets) × HasPairOf f s.octets
 
     like : (s : Record) → Decided (IsLike s)
-    like s = by (tested_or_not _ (pointwise_decides bytes_decides s.owner z.apex)) (tested_or_not _ (Decides-eqb s.kind 63)) (tested_or_not _ (bytes_decides s.octets r.octets)) (paired f s.octets)
+    like s = by (tested_or_not _ (pointwise_decides bytes_decides s.owner z.apex)) (tested_or_not _ (Decides-eqb s.kind 63)) (same_or_not s.octets r.octets) (paired f s.octets)
       where
         by : Decided (s.owner ≡ z.apex) → Decided (s.kind ≡ 63) → Decided (s.octets ≡ r.octets) → Decided (HasPairOf f s.octets) → Decided (IsLike s)
         by (inl a) (inl b) (inr c) (inl d) = inl (a, b, c, d)
@@ -158,7 +159,7 @@ module _ (z : Zone) (is : IsZone z) where
   is_digest : (a : Algorithm) (octets : Octets) → Decided (IsDigestOf z a octets)
   is_digest a octets =
       let own = some_digest z is a in
-      carried {P = octets ≡ digest_octets own.0} (λ same. (own.0, own.1, same)) (λ d. d.2 ∙ ap digest_octets (one_digest z a d.0 own.0 d.1 own.1)) (tested_or_not _ (bytes_decides octets (digest_octets own.0)))
+      carried {P = octets ≡ digest_octets own.0} (λ same. (own.0, own.1, same)) (λ d. d.2 ∙ ap digest_octets (one_digest z a d.0 own.0 d.1 own.1)) (same_or_not octets (digest_octets own.0))
 
   -- ---- the verdict
   module _ (r : Record) (zonemd : IsZonemd z r) where

@@ -1,5 +1,5 @@
 -- A text in base64 stands for one list of octets, those that it decodes to.
-use Rattle.zone_words.proofs.Common.{AppendsStated, AreOctets, Bool, List, Ok, [], ap, arith, bytes_each, drop, each_below, false, length, lit<, nil_from_length, refl, sym, take, take-append-drop, ℕ, ◌++◌, ◌<◌, ◌==◌, ◌∙◌, ◌∷◌, ◌≡◌}
+use Rattle.zone_words.proofs.Common.{AppendsStated, AreOctets, List, Ok, [], ap, arith, bytes_each, drop, each_below, length, lit<, nil_from_length, refl, sym, take, take-append-drop, ℕ, ◌++◌, ◌<◌, ◌∙◌, ◌∷◌, ◌≡◌}
 use Rattle.base64.proofs.EngineFacts.{decode_of-encode_of, decode_of_strict, encode_of-nil}
 use Rattle.base64.specs.Engines.{standard}
 use Rattle.base64.specs.GeneralPurpose.{IsBytes, decode_of, encode_of}
@@ -24,11 +24,6 @@ no_base64 text octets none is =
 some_octet : (text octets : List ℕ) → 0 < length text → text ≡ encode_of standard octets → 0 < length octets
 some_octet text [] some encoded = absurd (omega (arith, some, ap length (encoded ∙ encode_of-nil standard)))
 some_octet text (octet ∷ octets) some encoded = omega arith
-
--- as `is_empty` tells
-pub has_octets : (text : List ℕ) (empty : Bool) → empty ≡ (length text == 0) → empty ≡ false → 0 < length text
-has_octets [] empty tells none = cc
-has_octets (c ∷ text) empty tells none = omega arith
 
 -- what a text decodes to
 pub decoded_is : (text octets : List ℕ) → IsBytes text → IsBytes octets → 0 < length text → decode_of standard text ≡ Ok octets → IsBase64 text octets

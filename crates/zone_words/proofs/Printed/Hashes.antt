@@ -10,6 +10,7 @@ use Rattle.zone_words.proofs.Printed.Counted.{AfterLength, counted_bad, counted_
 use Rattle.zone_words.specs.Kinds.Hash.{IsBase32Hex, IsLowerBase32Hex, PrintsHash, StatesHash, base32_digit}
 use Rattle.zone_words.specs.Machine.Hashes.{AppendsDigits, IsLowerDigit, block_values, number_from}
 use Rattle.zone_words.specs.Printed.{NoFront, PrintsFront}
+use Rattle.zone_words.proofs.OfParameters.Lists.{zip_append}
 
 -- ---- lists side by side
 
@@ -19,12 +20,6 @@ zip_take (suc n) [] [] each = tt
 zip_take (suc n) [] (d ∷ digits) each = each
 zip_take (suc n) (c ∷ text) [] each = each
 zip_take (suc n) (c ∷ text) (d ∷ digits) each = (each.0, zip_take n text digits each.1)
-
-zip_append : (text digits more others : List ℕ) → AllZip IsLowerDigit text digits → AllZip IsLowerDigit more others → AllZip IsLowerDigit (text ++ more) (digits ++ others)
-zip_append [] [] more others each next = next
-zip_append [] (d ∷ digits) more others each next = absurd each
-zip_append (c ∷ text) [] more others each next = absurd each
-zip_append (c ∷ text) (d ∷ digits) more others each next = (each.0, zip_append text digits more others each.1 next)
 
 zip_stands : (text digits : List ℕ) → AllZip IsLowerDigit text digits → AllZip (λ c d. base32_digit c ≡ Some d) text digits
 zip_stands [] [] each = tt
@@ -97,7 +92,7 @@ digits_joined : (before block old mid new : List ℕ) (done : AppendsDigits befo
 digits_joined before block old mid new done more whole = record {
   text = done.text ++ more.text;
   digits = done.digits ++ more.digits;
-  spelt = zip_append done.text done.digits more.text more.digits done.spelt more.spelt;
+  spelt = zip_append IsLowerDigit done.text more.text done.digits more.digits done.spelt more.spelt;
   unused = more.unused;
   few = more.few;
   count = omega (arith, whole, done.count, more.count, length-append done.digits more.digits, length-append before block);

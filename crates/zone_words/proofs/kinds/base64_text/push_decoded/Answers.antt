@@ -1,15 +1,16 @@
 use Rattle.base64.specs.GeneralPurpose.{decode_of}
 use Rattle.base64.specs.Engines.{standard}
-use Rattle.zone_words.proofs.Common.{ap, arith, refl, sym, ◌∙◌}
-use Rattle.zone_words.proofs.Base64Texts.{decoded_appended, decodes_again, has_octets, no_base64}
+use Rattle.zone_words.proofs.Common.{ap, arith, length, refl, sym, ◌∙◌}
+use Rattle.zone_words.proofs.Base64Texts.{decoded_appended, decodes_again, no_base64}
 use Rattle.zone_words.proofs.kinds.base64_text.push_decoded.Goals as goal
+use Rattle.std.proofs.lemmas.Bool.{eqb-false}
 
 pub returns-then-is_empty-clause-fault : goal.returns-then-is_empty-clause-fault
 returns-then-is_empty-clause-fault c = (refl, λ octets is. no_base64 c.args.text.now octets (grind (arith, c.is_empty.ensures, c.if-is_empty.true)) is)
 
 pub returns-in-Ok-clause-states : goal.returns-in-Ok-clause-states
 returns-in-Ok-clause-states c =
-    decoded_appended c.args.text.now c.args.out.now.items _ _ (λ i. omega (arith, c.type_inv.text i)) c.in-Ok.ensures.bytes (has_octets c.args.text.now c.is_empty.result c.is_empty.ensures c.if-is_empty.false) c.in-Ok.ensures.ok c.in-Ok.ensures.front
+    decoded_appended c.args.text.now c.args.out.now.items _ _ (λ i. omega (arith, c.type_inv.text i)) c.in-Ok.ensures.bytes (omega (arith, eqb-false (length c.args.text.now) 0 (sym c.is_empty.ensures ∙ c.if-is_empty.false))) c.in-Ok.ensures.ok c.in-Ok.ensures.front
 
 pub returns-in-Err-DecodeError-clause-fault : goal.returns-in-Err-DecodeError-clause-fault
 returns-in-Err-DecodeError-clause-fault c =
