@@ -399,9 +399,6 @@ found_in line word form g class cut parted at none named is word_is has_type rea
       record { front_is = that.0; further_is = that.1; end_is = that.2; digits_are = that.3 };
 }
 
-pub some_back : (back : List ℕ) (empty : Bool) → empty ≡ (length back == 0) → empty ≡ false → back ≡ [] → ⊥
-some_back back empty is fails none = false≢true (sym fails ∙ is ∙ ap (λ b. length b == 0) none)
-
 pub none_weaker : {A : Type 0} {P Q : Type 0} (o : Option A) → IfNone o P → (P → Q) → IfNone o Q
 none_weaker None p goes = goes p
 none_weaker (Some a) p goes = tt

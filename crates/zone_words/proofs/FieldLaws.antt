@@ -1,7 +1,7 @@
 -- Each field states one list of octets at most, or has one fault and states none.
 use Rattle.zone_words.proofs.Common.{BadEscape, ComesToBadEscape, FailsBare, FailsField, FirstFault-once, IsHex, IsInOctets, Labels, List, NotAName, NothingStated, NumberFails, RawItem, Some, StatesBare, StatesField, StatesLocation, StatesTypes, TouchingItem, Unescaped, Width, WordsFault, [], ap, arith, groups_unique, item_text, numbers_unique, refl, sym, text_meaning, w16, w32, w8, ℕ, ◌∙◌, ◌∷◌, ◌≡◌}
 use Rattle.zone_words.specs.Kinds.Number.{no_number}
-use Rattle.zone_rdata.proofs.Fields.Strings.{fault_once as leftmost_once}
+use Rattle.zone_rdata.proofs.Fields.Strings.{each_never, fault_once as leftmost_once}
 use Rattle.zone_rdata.proofs.Strings.StringLaws.{fault-once, string-never_both}
 use Rattle.zone_rdata.specs.Spelling.{bare, quoted}
 use Rattle.zone_words.proofs.Base32Digits.{one_base32}
@@ -21,7 +21,7 @@ use Rattle.zone_words.proofs.OfParameters.Once.{parameters_once, parameters_or_f
 use Rattle.zone_words.proofs.OfParameters.OneFault.{parameters_fault_once}
 use Rattle.zone_words.proofs.Prefixes.{prefixes_once}
 use Rattle.zone_words.proofs.Salts.{one_salt}
-use Rattle.zone_words.proofs.StringItems.{never_first, string_once, strings_once}
+use Rattle.zone_words.proofs.StringItems.{string_once, strings_once}
 use Rattle.zone_words.proofs.Times.{time_fault_once, time_once, time_or_fault}
 use Rattle.zone_words.proofs.TypeItems.{perhaps_types_once, types_once}
 use Rattle.zone_words.proofs.TypeWords.{algorithm_once, certificate_type_once, type_word_once}
@@ -148,7 +148,7 @@ strings_are_one : (items : List RawItem) → IsOne (StatesStrings items) (FailsS
 strings_are_one [] = only _ _ (λ octets p. let some = p.spelt.some in omega arith)
 strings_are_one (item ∷ items) = record {
   once = strings_once (item ∷ items);
-  or_fault = λ octets fault p q. never_first (item ∷ items) p.strings q.own p.spelt.each q.first;
+  or_fault = λ octets fault p q. each_never (item ∷ items) p.strings q.own p.spelt.each q.first;
   fault_once = λ a b p q. p.is ∙ ap of_string (leftmost_once (item ∷ items) p.own q.own p.first q.first) ∙ sym q.is;
 }
 

@@ -1,5 +1,6 @@
 -- What is written for an entry is cut as the entry is, and has as many line feeds.
 use Rattle.zone_words.proofs.Common.{AllByRecursion, AllByRecursion-append, AllByRecursion-back, AllByRecursion-front, AllFollow, Anew, AreOnOneLine, BecomesUnder, Bool, Cuts, Entry, IsToken, IsUnit, Labels, List, Outcome, SaysAnew, Token, TokensSay, TouchingItem, Written, [], anew, ap, arith, blank, both_ways, closing, comment, depth_after, ends_item, entry_of, escaped, false, filter, flat_map-append, generic_tokens, if◌then◌else◌, in_generic_form, is_blank, kept, length, line_feed, line_feeds, opening, plain, refl, refused, renamed, stays, subst, sum_by-append, sym, text, token_text, touching_items, true, type_token, written, written_text, zero, ℕ, ◌++◌, ◌+◌, ◌<◌, ◌==◌, ◌∙◌, ◌∷◌, ◌≡◌, ◌≢◌}
+use Rattle.zone_text.proofs.Scanning.FirstEntries.{feeds_of_both}
 use Rattle.zone_text.proofs.Common.{bare, is_digit, quoted, text_of}
 use Rattle.zone_name.specs.Spelling.{decimal}
 use Rattle.zone_words.proofs.EntryShapes.{AreFlat, IsOne, IsUnended, anew_follow, anew_one, anew_unended, front_depth, generic_flat, written_depth}
@@ -14,14 +15,11 @@ use Rattle.zone_words.specs.Written.{in_octets}
 abbrev pub feeds : List Token → ℕ
 feeds tokens = line_feeds (text tokens)
 
-append_octets : (octets more : List ℕ) → line_feeds (octets ++ more) ≡ line_feeds octets + line_feeds more
-append_octets octets more = sum_by-append (λ c. if c == 10 then 1 else 0) octets more
-
 one_feeds : (p : Token) (back : List Token) → feeds (p ∷ back) ≡ line_feeds (token_text p) + feeds back
-one_feeds p back = append_octets (token_text p) (text back)
+one_feeds p back = feeds_of_both (token_text p) (text back)
 
 append_feeds : (front back : List Token) → feeds (front ++ back) ≡ feeds front + feeds back
-append_feeds front back = ap line_feeds (flat_map-append token_text front back) ∙ append_octets (text front) (text back)
+append_feeds front back = ap line_feeds (flat_map-append token_text front back) ∙ feeds_of_both (text front) (text back)
 
 none_counted : (octets : List ℕ) → AllByRecursion (λ c. c ≢ 10) octets → line_feeds octets ≡ 0
 none_counted [] each = refl
@@ -37,7 +35,7 @@ unit_feedless (decimal x y z) is = none_counted (92 ∷ x ∷ y ∷ z ∷ []) ((
 
 units_feedless : (units : List Written) → AllByRecursion (IsUnit ends_item) units → line_feeds (written_text units) ≡ 0
 units_feedless [] each = refl
-units_feedless (w ∷ units) each = omega (arith, append_octets (text_of w) (written_text units), unit_feedless w each.0, units_feedless units each.1)
+units_feedless (w ∷ units) each = omega (arith, feeds_of_both (text_of w) (written_text units), unit_feedless w each.0, units_feedless units each.1)
 
 blank_feedless : (c : ℕ) → IsToken (blank c) → line_feeds (token_text (blank c)) ≡ 0
 blank_feedless c is = none_counted (c ∷ []) ((λ e. both_ways (is_blank c) (ap is_blank e) is), tt)
@@ -46,7 +44,7 @@ pub bare_feedless : (units : List Written) → IsToken (bare units) → line_fee
 bare_feedless units is = units_feedless units is.1
 
 quoted_feeds : (units : List Written) → line_feeds (token_text (quoted units)) ≡ line_feeds (written_text units)
-quoted_feeds units = omega (arith, append_octets (34 ∷ []) (written_text units ++ 34 ∷ []), append_octets (written_text units) (34 ∷ []), none_counted (34 ∷ []) ((λ e. omega arith), tt))
+quoted_feeds units = omega (arith, feeds_of_both (34 ∷ []) (written_text units ++ 34 ∷ []), feeds_of_both (written_text units) (34 ∷ []), none_counted (34 ∷ []) ((λ e. omega arith), tt))
 
 flat_feeds : (tokens more : List Token) → AreFlat tokens → AllByRecursion IsToken tokens → feeds (tokens ++ more) ≡ feeds more
 flat_feeds [] more flat each = refl

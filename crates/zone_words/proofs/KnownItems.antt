@@ -4,6 +4,7 @@ use Rattle.std.proofs.Math.Seq.{drop-append_seam}
 use Rattle.std.proofs.lemmas.Bool.{eq-eqb, ne_eqb}
 use Rattle.std.proofs.lemmas.List.{drop_more}
 use Rattle.zone_name.specs.Spelling.{decimal}
+use Rattle.zone_rdata.proofs.Choices.{if_some_weaker}
 use Rattle.zone_rdata.specs.Item as items
 use Rattle.zone_text.specs.Tokens.{bare, quoted}
 use Rattle.std.proofs.Common.{Bor}
@@ -96,12 +97,8 @@ pub none_first : (octets : List ℕ) → length octets ≡ 0 → (tokens : List 
 none_first octets none [] are = refl
 none_first octets none (p ∷ more) are = absurd (nothing_left octets p more none are)
 
-some_by : {A : Type 0} (r : Option A) (P Q : A → Type 0) → ((x : A) → P x → Q x) → IfSome r P → IfSome r Q
-some_by None P Q by p = tt
-some_by (Some x) P Q by p = by x p
-
 pub comment_passed : (octets after : List ℕ) (result : Option (Bor (List ℕ))) → octets ≡ 59 ∷ after → IfSome result (λ rest. (more : List ℕ) → octets ≡ 59 ∷ more → FrontIs octets [] rest.now) → IfSome result (λ rest. FrontIs octets [] rest.now)
-comment_passed octets after result first is = some_by result _ _ (λ rest front. front after first) is
+comment_passed octets after result first is = if_some_weaker result _ _ (λ rest front. front after first) is
 
 pub comment_there : (octets after : List ℕ) (result : Option (Bor (List ℕ))) → octets ≡ 59 ∷ after → IfNone result (octets ≡ []) → IfNone result ((tokens : List Token) → AreTokensOf octets tokens → from_item tokens ≡ tokens)
 comment_there octets after None first none = absurd (let clash : [] ≡ 59 ∷ after = sym none ∙ first in cc)

@@ -3,6 +3,7 @@
 use Rattle.zone_words.proofs.Common.{AllByRecursion, AllZip, Bool, List, NamedField, None, Option, RawItem, Sent, Some, TouchingItem, [], and_parts, ap, arith, each_below, false, false≢true, flat_map, get_or, if◌then◌else◌, length, length-append, length-map, lit<, list_all, most_items, refl, sent_octets, suc, true, with_length, zero, ℕ, ◌&&◌, ◌+◌, ◌++◌, ◌<◌, ◌==◌, ◌∷◌, ◌≡◌, ◌≤◌}
 use Rattle.std.proofs.Common.{subst}
 use Rattle.std.specs.List.Sorted.{IsStrictlyIncreasing}
+use Rattle.zone_name.proofs.InOctets.Octets.{length-frames}
 use Rattle.zone_rdata.proofs.Common.{each_weaker}
 use Rattle.zone_rdata.specs.Item.{bare, quoted}
 use Rattle.zone_rdata.specs.Strings.{inside_text}
@@ -28,12 +29,8 @@ use Rattle.zone_words.specs.declared.parameters.key.Key.TheVariants.{Numbered}
 
 -- ---- an item for each octet at most
 
-strings_count : (strings : List (List ℕ)) → length strings ≤ length (flat_map with_length strings)
-strings_count [] = omega arith
-strings_count (s ∷ strings) = omega (arith, strings_count strings, length-append s (flat_map with_length strings))
-
 strings_few : (items : List RawItem) (octets : List ℕ) → PrintsStrings items octets → length items ≤ length octets
-strings_few items octets printed = omega (arith, ap length printed.printed, ap length printed.value, strings_count printed.strings, length-map printed.strings (λ string. quoted (inside_text string)))
+strings_few items octets printed = omega (arith, ap length printed.printed, ap length printed.value, length-frames printed.strings, length-map printed.strings (λ string. quoted (inside_text string)))
 
 names_count : (texts parts : List (List ℕ)) → AllZip (PrintsBare Name) texts parts → length texts ≤ length (flat_map (λ part. part) parts)
 names_count [] [] each = omega arith

@@ -1,5 +1,6 @@
 -- A field that is printed for the octets at the front, each kind.
 use Rattle.zone_words.proofs.Common.{List, RawItem, [], ap, append-nil, append_assoc, arith, length, length-append, refl, subst, sym, ℕ, ◌++◌, ◌∙◌, ◌∷◌, ◌≡◌}
+use Rattle.std.proofs.lemmas.List.{nil_from_length}
 use Rattle.std.specs.Prelude.{true, ◌≢◌, ◌<◌}
 use Rattle.zone_name.specs.Common.{Labels}
 use Rattle.zone_rdata.specs.Item.{bare, quoted}
@@ -115,12 +116,8 @@ perhaps_unprinted octets some none origin items part after own is =
     let all = whole_part PerhapsOneString octets part after refl own in
     none origin items part after (record { whole = own.whole; all = λ e. absurd cc }) (one_of_perhaps origin items part (λ e. some (all ∙ e)) is)
 
-nothing_long : (octets : List ℕ) → length octets ≡ 0 → octets ≡ []
-nothing_long [] e = refl
-nothing_long (c ∷ octets) e = absurd cc
-
 no_rest : (octets part rest : List ℕ) → octets ≡ part ++ rest → octets ≡ part → rest ≡ []
-no_rest octets part rest whole same = nothing_long rest (omega (arith, ap length whole, ap length same, length-append part rest))
+no_rest octets part rest whole same = nil_from_length rest (omega (arith, ap length whole, ap length same, length-append part rest))
 
 pub string_and_more : (octets rest old new : List ℕ) → octets ≢ [] → rest ≢ [] → PrintsOwn OneString octets rest old new → HasNoOwn PerhapsOneString octets
 string_and_more octets rest old new some more h origin items part after own is =

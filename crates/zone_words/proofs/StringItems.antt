@@ -56,9 +56,3 @@ many_once (item ∷ items) (s ∷ a) [] p q = absurd q
 
 pub strings_once : (items : List RawItem) (a b : List ℕ) → StatesStrings items a → StatesStrings items b → a ≡ b
 strings_once items a b p q = p.value ∙ ap (flat_map with_length) (many_once items p.strings q.strings p.spelt.each q.spelt.each) ∙ sym q.value
-
-pub never_first : (items : List RawItem) (many : List (List ℕ)) (own : Fault) → SpellEachString items many → FirstStringFault items own → ⊥
-never_first [] many own p bad = bad
-never_first (item ∷ items) [] own p bad = p
-never_first (item ∷ items) (s ∷ many) own p (inl bad) = string-never_both item s own p.0 bad
-never_first (item ∷ items) (s ∷ many) own p (inr later) = never_first items many own p.1 later.2

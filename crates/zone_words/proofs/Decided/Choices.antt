@@ -3,11 +3,6 @@ use Rattle.zone_name.specs.Common.{EitherIs}
 use Rattle.zone_rdata.proofs.Choices.{Choice, Decided}
 use Rattle.zone_words.proofs.Common.{List, NothingStated, WordsFault, arith, cases_lt, inl, inr, refl, ℕ, ◌<◌, ◌≤◌, ◌⊎◌}
 
-pub both_or_not : {P Q : Type 0} → Decided P → Decided Q → Decided (P × Q)
-both_or_not (inl p) (inl q) = inl (p, q)
-both_or_not (inr none) q = inr (λ h. none h.0)
-both_or_not (inl p) (inr none) = inr (λ h. none h.1)
-
 pub as_or_not : {P Q : Type 0} → (P → Q) → (Q → P) → Decided P → Decided Q
 as_or_not there back (inl p) = inl (there p)
 as_or_not there back (inr none) = inr (λ q. none (back q))

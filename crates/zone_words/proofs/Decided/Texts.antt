@@ -7,12 +7,12 @@ use Rattle.zone_name.proofs.Spelling.Answered.{one_verdict_cased}
 use Rattle.zone_name.specs.Common.{EitherIs}
 use Rattle.zone_name.specs.Name.{IsCasedName}
 use Rattle.zone_name.specs.Spelling.{is_digit}
-use Rattle.zone_rdata.proofs.Choices.{Choice, Decided, each_or_not, true_or_not}
+use Rattle.zone_rdata.proofs.Choices.{Choice, Decided, both_or_not, each_or_not, true_or_not}
 use Rattle.zone_rdata.proofs.Items.GenericLaws.{decimal_or_not}
 use Rattle.zone_rdata.proofs.Words.OneWord.{same_or_not}
 use Rattle.zone_words.proofs.Common.{AllByRecursion, AreOctets, IsDateTime, IsHex, Labels, List, NotAName, None, Option, Result, Some, WordsFault, [], ap, arith, cases_lt, codes, get_or, inl, inr, length, refl, suc, sym, to_be_bytes, true, w32, wire, with_length, zero, ℕ, ◌%◌, ◌*◌, ◌++◌, ◌+◌, ◌-◌, ◌/◌, ◌<◌, ◌^◌, ◌∙◌, ◌∷◌, ◌≡◌, ◌≤◌, ◌⊎◌}
 use Rattle.zone_words.proofs.Base32Digits.{IsDigit, Reading, bad_digit, begun, no_digit, octet_count, reads_filled, reads_kept, reads_whole, unused_bits}
-use Rattle.zone_words.proofs.Decided.Choices.{as_or_not, at_most_or_not, both_or_not}
+use Rattle.zone_words.proofs.Decided.Choices.{as_or_not, at_most_or_not}
 use Rattle.zone_words.proofs.Times.{no_date, no_number}
 use Rattle.zone_words.specs.Kinds.AfterLength.{FailsAfterLength, StatesAfterLength, of_no_octets, of_too_many}
 use Rattle.zone_words.specs.Kinds.Calendar.{month_length, seconds_since}

@@ -2,13 +2,13 @@
 use Rattle.std.proofs.Common.{decimal}
 use Rattle.zone_name.specs.Common.{EitherIs}
 use Rattle.zone_rdata.proofs.Addresses.AddressChoice.{ipv4_or_not, ipv6_or_not}
-use Rattle.zone_rdata.proofs.Choices.{Choice, Decided, each_or_not}
+use Rattle.zone_rdata.proofs.Choices.{Choice, Decided, both_or_not, each_or_not}
 use Rattle.zone_rdata.proofs.Fields.Number.{spelled_or_not}
 use Rattle.zone_rdata.proofs.Items.GenericLaws.{decimal_or_not}
 use Rattle.zone_rdata.proofs.Words.OneWord.{same_or_not}
 use Rattle.zone_words.proofs.Common.{AllByRecursion, AllZip, Alpn, AreOctets, AscendAbove, BadEscape, ComesToBadEscape, DohPath, Ech, FailsValue, HasEscapes, HasName, Ipv4Hint, Ipv6Hint, IsDecimal, IsKeyNumber, IsKeyText, IsPermutation, IsProtocol, Key, List, ListsAddresses, ListsKeys, ListsProtocols, Mandatory, NoDefaultAlpn, None, NothingIs, Numbered, Ohttp, Option, Port, RequiresKeys, Some, SpellsKey, StatesPath, StatesValue, Unescaped, WordsFault, [], ap, arith, bad_escape, cases_lt, codes, drop, false, flat_map, inl, inr, key_text, length, listed, refl, subst, suc, sym, take, take-append-drop, to_be_bytes, w16, with_length, ℕ, ◌++◌, ◌<◌, ◌∙◌, ◌∷◌, ◌≡◌, ◌≢◌, ◌≤◌, ◌⊎◌}
 use Rattle.zone_words.proofs.Decided.Base64.{base64_or_not}
-use Rattle.zone_words.proofs.Decided.Choices.{at_most_or_not, both_or_not}
+use Rattle.zone_words.proofs.Decided.Choices.{at_most_or_not}
 use Rattle.zone_words.proofs.Decided.Items.{unescaped_decided}
 use Rattle.zone_words.proofs.Decided.Sorted.{in_order}
 use Rattle.zone_words.proofs.OfParameters.Ascending.{RiseFrom, rise_once, rise_weaker}

@@ -25,10 +25,6 @@ begin_quoted items rest first text key value inside e is cut empty found =
 pub some_value : (value : List ℕ) → 0 < length value → value ≡ [] → ⊥
 some_value value some e = omega (arith, some, ap length e)
 
-pub no_value : (value : List ℕ) → length value ≡ 0 → value ≡ []
-no_value [] e = refl
-no_value (c ∷ value) e = absurd (omega (arith, e))
-
 -- ---- items begin with one parameter
 
 -- the text of the first item

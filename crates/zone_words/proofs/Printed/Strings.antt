@@ -1,6 +1,6 @@
 -- Character-strings as they are printed.
 use Rattle.zone_words.proofs.Common.{AllZip, List, RawItem, [], ap, append-nil, append_assoc, arith, flat_map, length, map, nil_from_length, refl, slice_index, sym, with_length, ℕ, ◌++◌, ◌<◌, ◌∙◌, ◌∷◌, ◌≡◌, AllByRecursion, AllByRecursion-append}
-use Rattle.zone_rdata.proofs.Octets.Sent.{frame_same}
+use Rattle.zone_rdata.proofs.Octets.Sent.{frame_same, frames_push}
 use Rattle.zone_rdata.specs.Item.{quoted}
 use Rattle.zone_rdata.specs.Strings.{IsString, SpellsString, inside_text, string_text}
 use Rattle.zone_rdata.specs.Text.{written_item}
@@ -36,13 +36,6 @@ items_more [] string = append-nil (32 ∷ string_text string)
 items_more (s ∷ strings) string =
     ap (λ t. (32 ∷ string_text s) ++ t) (items_more strings string) ∙ sym (append_assoc (32 ∷ string_text s) (after_blanks (map as_item strings)) (32 ∷ string_text string))
 
-strings_more : (strings : List (List ℕ)) (string rest : List ℕ) → flat_map with_length strings ++ (with_length string ++ rest) ≡ flat_map with_length (strings ++ string ∷ []) ++ rest
-strings_more [] string rest = ap (λ s. s ++ rest) (sym (append-nil (with_length string)))
-strings_more (s ∷ strings) string rest =
-    append_assoc (with_length s) (flat_map with_length strings) (with_length string ++ rest)
-    ∙ ap (λ t. with_length s ++ t) (strings_more strings string rest)
-    ∙ sym (append_assoc (with_length s) (flat_map with_length (strings ++ string ∷ [])) rest)
-
 pub one_more_printed : (octets rest after old mid blank new : List ℕ) → HavePrinted octets rest old mid → blank ≡ mid ++ 32 ∷ [] → PrintsFront PrintsString IsAString rest after blank new → HavePrinted octets after old new
 one_more_printed octets rest after old mid blank new have spaced front =
     let p = front.printed in
@@ -50,7 +43,7 @@ one_more_printed octets rest after old mid blank new have spaced front =
     record {
       strings = have.strings ++ p.string ∷ [];
       each = AllByRecursion-append IsString have.strings (p.string ∷ []) have.each (p.is, tt);
-      front = have.front ∙ ap (λ r. flat_map with_length have.strings ++ r) cut ∙ strings_more have.strings p.string after;
+      front = have.front ∙ ap (λ r. flat_map with_length have.strings ++ r) cut ∙ frames_push have.strings p.string after;
       appended =
           front.appended ∙ ap (λ b. b ++ front.text) spaced ∙ ap (λ t. (mid ++ 32 ∷ []) ++ t) p.printed ∙ append_assoc mid (32 ∷ []) (string_text p.string)
           ∙ ap (λ m. m ++ 32 ∷ string_text p.string) have.appended ∙ append_assoc old (after_blanks (map as_item have.strings)) (32 ∷ string_text p.string)

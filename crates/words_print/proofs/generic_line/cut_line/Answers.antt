@@ -1,4 +1,5 @@
-use Rattle.words_print.proofs.DataEnds.{no_before, no_stem, no_worded, nothing_back, some_back}
+use Rattle.words_print.proofs.DataEnds.{no_before, no_stem, no_worded, nothing_back}
+use Rattle.words_print.proofs.Fed.{filled}
 use Rattle.words_print.proofs.generic_line.cut_line.Goals as goal
 
 pub returns-in_err-before-clause-none : goal.returns-in_err-before-clause-none
@@ -14,7 +15,7 @@ returns-in_err-worded-clause-none c =
 pub returns-then-not-is_empty-clause-none : goal.returns-then-not-is_empty-clause-none
 returns-then-not-is_empty-clause-none c =
     λ stem word form end cut. nothing_back c.args.line.now c.split_end.result.0.now c.split_end.result.1.now c.in_ok-before.before.now c.in_ok-before.form.now c.split_end.ensures c.in_ok-before.ensures.some stem word form end cut c.in_ok-worded.worded.now c.in_ok-worded.back.now c.in_ok-worded.ensures.some
-    (some_back c.in_ok-worded.back.now c.is_empty.result c.is_empty.ensures c.if-not-is_empty.true)
+    (filled c.in_ok-worded.back.now c.is_empty.result c.is_empty.ensures c.if-not-is_empty.true)
 
 pub returns-in_err-stem-clause-none : goal.returns-in_err-stem-clause-none
 returns-in_err-stem-clause-none c =
