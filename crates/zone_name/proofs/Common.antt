@@ -18,8 +18,8 @@ pub use Rattle.std.specs.declared.cmp.Ordering.TheVariants.{Equal}
 pub use Rattle.zone_name.specs.Common.{AreOctets, each_after}
 pub use Rattle.zone_name.specs.Machine.LabelWalk.{Ahead, Collects, Step, ahead_in, at_dot, at_end, at_fault, at_octet, done, failed, goes, read, reading, sized, step_at, under_origin, unit_ahead}
 pub use Rattle.zone_name.specs.Machine.Plain.{TellsMarks, TurnsEvens, TurnsFront, WritesLengths, after_dots, is_mark, is_plain}
-pub use Rattle.zone_name.specs.Machine.Seen.{Closes, EndsInFault, EndsLabelAt, Goes, HasShape, HoldsCasedLabels, Joins, RefusesLabel, empty, long}
-pub use Rattle.zone_name.specs.Machine.Letters.{HoldsLabelsBy, HoldsNameBy, SpellsBy, lettered, lettered_in, name_read, origin_in}
+pub use Rattle.zone_name.specs.Machine.Seen.{HasShape, HoldsCasedLabels}
+pub use Rattle.zone_name.specs.Machine.Letters.{HoldsLabelsBy, HoldsNameBy, IsReadBy, Joins, SpellsBy, lettered, lettered_in, lettered_octet, name_read, origin_in}
 pub use Rattle.zone_name.specs.Machine.Shown.{IsShown, is_bare, is_odd}
 pub use Rattle.zone_name.specs.Name.{BeginsWithName, HoldsCasedName, HoldsLabels, HoldsName, IsCasedLabel, IsCasedName, IsFoldedOctet, IsLabel, IsName, IsWithin, folded, folded_label, folded_octet, labels_by, labels_of, wire, with_length}
 pub use Rattle.zone_name.specs.Order.{label_cmp, name_cmp}

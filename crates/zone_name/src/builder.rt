@@ -4,8 +4,9 @@ ghost use Rattle.zone_name.specs.Spelling.{IsLabelFault};
 ghost use Rattle.zone_name.specs.declared.fault.NameFault.TheVariants.{EmptyLabel, LabelTooLong, NameTooLong};
 
 use crate::fault::NameFault;
-use crate::limits::{MAX_NAME_LEN, check_label};
+use crate::limits::{MAX_LABEL_LEN, MAX_NAME_LEN};
 use crate::name::Name;
+use crate::reading::{Letters, append_label};
 use arrayvec::ArrayVec;
 use std::marker::Model;
 
@@ -53,15 +54,17 @@ impl NameBuilder {
         ensures err { OnErr result (self.new ≡ self.old) }
         ensures only { IfErr result IsLabelFault }
     {
-        check_label(label)?;
-        if self.octets.remaining_capacity() < label.len() + 2 {
-            return Err(NameFault::NameTooLong);
+        match label.len() {
+            0 => Err(NameFault::EmptyLabel),
+            1..=MAX_LABEL_LEN => {
+                if append_label(&mut self.octets, label, Letters::Folded) {
+                    Ok(())
+                } else {
+                    Err(NameFault::NameTooLong)
+                }
+            }
+            _ => Err(NameFault::LabelTooLong),
         }
-        self.octets.push(label.len() as u8);
-        for octet in label {
-            self.octets.push(octet.to_ascii_lowercase());
-        }
-        Ok(())
     }
 
     /// The name of the labels that were pushed.

@@ -7,8 +7,7 @@ ghost use Rattle.zone_name.specs.Machine.Letters.{origin_in};
 use crate::fault::NameFault;
 use crate::name::Name;
 use crate::octets::NameOctets;
-use crate::reading::{Letters, fold, read_name};
-use arrayvec::ArrayVec;
+use crate::reading::{Letters, read_name};
 use std::marker::Model;
 
 /// A domain name with its letters as they are written: its uncompressed octets (RFC 1035 3.1).
@@ -102,9 +101,8 @@ impl CasedName {
     pub fn folded(&self) -> Name
         ensures { result ≡ folded self.now }
     {
-        let mut octets = ArrayVec::new();
-        let _ = octets.try_extend_from_slice(self.octets.as_slice());
-        fold(&mut octets);
+        let mut octets = NameOctets::holding(self.octets.as_slice());
+        octets.fold();
         Name::holding(octets.as_slice())
     }
 }

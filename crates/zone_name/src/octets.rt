@@ -1,5 +1,5 @@
-ghost use Rattle.std.specs.Prelude.{◌≡◌, ◌∷◌, ◌≤◌, [], length, IsTrue, IfSome, Ok, option_copied};
-ghost use Rattle.zone_name.specs.Name.{labels_of};
+ghost use Rattle.std.specs.Prelude.{◌≡◌, ◌∷◌, ◌≤◌, [], length, map, IsTrue, IfSome, Ok, option_copied};
+ghost use Rattle.zone_name.specs.Name.{folded_octet, labels_of};
 ghost use Rattle.zone_name.specs.Machine.Letters.{HoldsNameBy, name_read, origin_in};
 
 use crate::lanes::put;
@@ -61,6 +61,14 @@ impl NameOctets {
         ensures fits { length result.now ≤ 255 }
     {
         &self.room[..self.len]
+    }
+
+    /// Puts the letters in lower case (RFC 4343 3). A label's length is no letter, and stays.
+    #[tactic(auto, using(crate::proofs::InOctets::Pushing::folded_front))]
+    pub(crate) fn fold(&mut self)
+        ensures { self.new ≡ map folded_octet self.old }
+    {
+        self.room.make_ascii_lowercase();
     }
 
     /// Puts the name of a text without escapes, which is neither `.` nor `@`, in place of those that

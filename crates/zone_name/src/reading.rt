@@ -3,17 +3,16 @@ ghost use Rattle.std.specs.Prelude.{IsOk, IsTrue, IfSome, IfOk, IfErr, OnOk, OnE
 ghost use Rattle.zone_name.specs.Common.{Labels, Octets};
 ghost use Rattle.zone_name.specs.Name.{HoldsName, folded_octet, labels_of};
 ghost use Rattle.zone_name.specs.Spelling.{AppendsSpelled, SpellingFault};
-ghost use Rattle.zone_name.specs.Machine.LabelWalk.{Collects, reading, under_origin, sized};
-ghost use Rattle.zone_name.specs.Machine.Letters.{HoldsLabelsBy, HoldsNameBy, IsReadBy, SpellsBy};
-ghost use Rattle.zone_name.specs.Machine.Letters.{lettered, name_read, origin_in};
+ghost use Rattle.zone_name.specs.Machine.LabelWalk.{reading};
+ghost use Rattle.zone_name.specs.Machine.Letters.{HoldsLabelsBy, HoldsNameBy, IsReadBy, Joins};
+ghost use Rattle.zone_name.specs.Machine.Letters.{SpellsBy, lettered, name_read, origin_in};
 ghost use Rattle.zone_name.specs.Machine.Plain.{TellsMarks, WritesLengths, is_plain};
-ghost use Rattle.zone_name.specs.Machine.Seen.{Closes, EndsLabelAt, HasShape, HoldsCasedLabels, IsClosable};
-ghost use Rattle.zone_name.specs.Machine.Seen.{IsReadInto, EndsInFault, RefusesLabel};
+ghost use Rattle.zone_name.specs.Machine.Seen.{HasShape, HoldsCasedLabels};
 
 use crate::escape::{NextUnit, next_unit};
 use crate::fault::NameFault;
 use crate::lanes::{EVENS, LANES, ROOM, fold_lanes, mark_bits, put, turn_evens};
-use crate::limits::{MAX_LABEL_LEN, MAX_NAME_LEN, check_label};
+use crate::limits::{MAX_LABEL_LEN, MAX_NAME_LEN};
 use crate::octets::NameOctets;
 use arrayvec::ArrayVec;
 use std::alloc::AllocError;
@@ -283,209 +282,79 @@ pub(crate) fn read_plain(
     }
 }
 
-/// Appends a label to the others, its letters as they are, and tells whether there was no room for
-/// it.
-fn close(octets: &mut ArrayVec<u8, MAX_NAME_LEN>, label: &[u8]) -> Result<bool, NameFault>
-    requires { HoldsCasedLabels octets.old.items }
-    ensures holds { HoldsCasedLabels octets.new.items }
-    ensures ok { IfOk result (λ full. Closes (labels_of octets.old.items) label.now full
-        (labels_of octets.new.items)) }
-    ensures err { IfErr result (RefusesLabel label.now) }
+/// Appends a label after its length, its letters folded or kept, and tells whether there was room
+/// for it. If not, nothing is appended.
+pub(crate) fn append_label(
+    octets: &mut ArrayVec<u8, MAX_NAME_LEN>,
+    label: &[u8],
+    letters: Letters,
+) -> bool
+    requires some { 0 < length label.now }
+    requires short { length label.now ≤ 63 }
+    requires holds { HoldsLabelsBy letters octets.old.items }
+    ensures holds { HoldsLabelsBy letters octets.new.items }
+    ensures joins { Joins letters (labels_of octets.old.items) label.now result
+        (labels_of octets.new.items) }
 {
-    check_label(label)?;
     if octets.remaining_capacity() < label.len() + 2 {
-        return Ok(true);
+        return false;
     }
     octets.push(label.len() as u8);
-    let _ = octets.try_extend_from_slice(label);
-    Ok(false)
-}
-
-/// A label that was read at the beginning of a text.
-#[derive(Drop)]
-struct ReadLabel<'t> {
-    /// There was no room for it, and it was not kept.
-    is_left_out: bool,
-    /// What follows it: nothing, or a dot and more.
-    following: &'t [u8],
-}
-
-/// Puts the label that a text begins with in place, octet by octet.
-#[tactic(auto, using(crate::proofs::Spelling::Steps::label_refused))]
-// Not inlined: only a text with an escape or a fault needs room for a label of its own.
-#[inline(never)]
-fn read_label<'t>(
-    octets: &mut ArrayVec<u8, MAX_NAME_LEN>,
-    text: &'t [u8],
-) -> Result<ReadLabel<'t>, NameFault>
-    requires some { 0 < length text.now }
-    requires holds { HoldsCasedLabels octets.old.items }
-    ensures holds { HoldsCasedLabels octets.new.items }
-    ensures ok { IfOk result (λ read. IsClosable text.now read.following.now (λ label.
-        Closes (labels_of octets.old.items) label read.is_left_out
-        (labels_of octets.new.items))) }
-    ensures err { IfErr result (EndsInFault text.now) }
-{
-    let mut label: ArrayVec<u8, MAX_LABEL_LEN> = ArrayVec::new();
-    let following = open_label(&mut label, text)?;
-    let is_left_out = close(octets, label.as_slice())?;
-    Ok(ReadLabel {
-        is_left_out,
-        following,
-    })
-}
-
-/// Reads the octets of the label that a text begins with, and returns what follows it.
-#[tactic(auto, using(crate::proofs::Spelling::Steps::full_label))]
-fn open_label<'t>(
-    label: &mut ArrayVec<u8, MAX_LABEL_LEN>,
-    text: &'t [u8],
-) -> Result<&'t [u8], NameFault>
-    requires some { 0 < length text.now }
-    requires none { label.old.items ≡ [] }
-    ensures ok { IfOk result (λ rest. EndsLabelAt text.now label.new.items rest.now) }
-    ensures err { IfErr result (EndsInFault text.now) }
-{
-    let mut rest = text;
-    loop {
-        if rest.starts_with(b".") {
-            return Ok(rest);
-        }
-        match next_unit(rest) {
-            NextUnit::End => return Ok(rest),
-            NextUnit::Octet(octet, after) => {
-                if label.is_full() {
-                    return Err(NameFault::LabelTooLong);
-                }
-                label.push(octet);
-                rest = after;
-            }
-            NextUnit::BadEscape => return Err(NameFault::BadEscape),
-        }
+    for octet in label {
+        octets.push(match letters {
+            Letters::Kept => *octet,
+            Letters::Folded => octet.to_ascii_lowercase(),
+        });
     }
-}
-
-/// Puts the labels of a text that is neither `.` nor `@` in place, their letters as they are (RFC
-/// 1035 5.1).
-#[tactic(auto, using(crate::proofs::Spelling::Steps::labels_read))]
-fn read_labels(octets: &mut ArrayVec<u8, MAX_NAME_LEN>, text: &[u8]) -> Result<Spelled, NameFault>
-    requires { octets.old.items ≡ [] }
-    ensures holds { HoldsCasedLabels octets.new.items }
-    ensures labels { IfOk result (λ spelled. IsReadInto text.now octets.new.items spelled) }
-    ensures fault { IfErr result (λ fault. reading text.now ≡ Err fault) }
-{
-    if text.is_empty() {
-        return Err(NameFault::EmptyLabel);
-    }
-    let mut is_too_long = false;
-    let mut rest = text;
-    while !rest.is_empty() {
-        let ReadLabel {
-            is_left_out,
-            following,
-        } = read_label(octets, rest)?;
-        is_too_long |= is_left_out;
-        let Some((_, after)) = following.split_first() else {
-            return Ok(Spelled {
-                is_too_long,
-                is_absolute: false,
-            });
-        };
-        rest = after;
-    }
-    Ok(Spelled {
-        is_too_long,
-        is_absolute: true,
-    })
-}
-
-/// Puts the letters in lower case (RFC 4343 3). A label's length is no letter, and stays.
-#[tactic(auto, using(crate::proofs::InOctets::Pushing::folded_again))]
-pub(crate) fn fold(octets: &mut ArrayVec<u8, MAX_NAME_LEN>)
-    ensures { octets.new.items ≡ map folded_octet octets.old.items }
-{
-    octets.as_mut_slice().make_ascii_lowercase();
-}
-
-/// Folds the letters of the labels, or keeps them.
-fn set_letters(octets: &mut ArrayVec<u8, MAX_NAME_LEN>, letters: Letters)
-    requires { HoldsCasedLabels octets.old.items }
-    ensures holds { HoldsLabelsBy letters octets.new.items }
-    ensures labels { labels_of octets.new.items ≡ lettered letters (labels_of octets.old.items) }
-{
-    match letters {
-        Letters::Kept => {}
-        Letters::Folded => fold(octets),
-    }
-}
-
-/// Appends the octets of a name to those of labels, the letters of both folded or kept.
-#[tactic(auto, using(crate::proofs::Spelling::Letters::joined_long))]
-fn end_with(octets: &mut ArrayVec<u8, MAX_NAME_LEN>, ending: &[u8]) -> Result<(), NameFault>
-    ensures ok { IfOk result (λ _. (letters : Letters) → HoldsLabelsBy letters octets.old.items
-        → HoldsNameBy letters ending.now → HoldsNameBy letters octets.new.items
-        × (sized (labels_of octets.old.items ++ labels_of ending.now)
-        ≡ Ok (labels_of octets.new.items))) }
-    ensures err { IfErr result (λ fault. (letters : Letters)
-        → HoldsLabelsBy letters octets.old.items → HoldsNameBy letters ending.now
-        → sized (labels_of octets.old.items ++ labels_of ending.now) ≡ Err fault) }
-{
-    octets
-        .try_extend_from_slice(ending)
-        .map_err(|_| NameFault::NameTooLong)
-}
-
-/// Ends the name of the labels, followed by the origin's where the text is relative, the letters of
-/// both folded or kept.
-#[tactic(auto, using(crate::proofs::Spelling::Letters::name_ends))]
-fn finish(
-    octets: &mut ArrayVec<u8, MAX_NAME_LEN>,
-    spelled: Spelled,
-    origin: Option<&[u8]>,
-) -> Result<(), NameFault>
-    ensures ok { IfOk result (λ _. (letters : Letters) → HoldsLabelsBy letters octets.old.items
-        → IfSome (option_copied origin.entry) (HoldsNameBy letters)
-        → HoldsNameBy letters octets.new.items × ((labels : Labels)
-        → Collects (labels_of octets.old.items) spelled.is_too_long labels
-        → under_origin (origin_in (option_copied origin.entry)) (Ok (labels, spelled.is_absolute))
-        ≡ Ok (labels_of octets.new.items))) }
-    ensures err { IfErr result (λ fault. (letters : Letters)
-        → HoldsLabelsBy letters octets.old.items
-        → IfSome (option_copied origin.entry) (HoldsNameBy letters) → (labels : Labels)
-        → Collects (labels_of octets.old.items) spelled.is_too_long labels
-        → under_origin (origin_in (option_copied origin.entry)) (Ok (labels, spelled.is_absolute))
-        ≡ Err fault) }
-{
-    if spelled.is_absolute {
-        if spelled.is_too_long {
-            return Err(NameFault::NameTooLong);
-        }
-        return end_with(octets, b"\0");
-    }
-    let Some(above) = origin else {
-        return Err(NameFault::RelativeName);
-    };
-    if spelled.is_too_long {
-        return Err(NameFault::NameTooLong);
-    }
-    end_with(octets, above)
+    true
 }
 
 /// Puts the labels of a text that is neither `.` nor `@` in place, with their letters folded or
 /// kept (RFC 1035 5.1), octet by octet.
-fn read_spelled(
+#[tactic(auto, using(crate::proofs::Spelling::Steps::labels_read))]
+fn read_labels(
     octets: &mut ArrayVec<u8, MAX_NAME_LEN>,
     text: &[u8],
     letters: Letters,
 ) -> Result<Spelled, NameFault>
     requires { octets.old.items ≡ [] }
-    ensures holds { OnOk result (HoldsLabelsBy letters octets.new.items) }
+    ensures holds { HoldsLabelsBy letters octets.new.items }
     ensures labels { IfOk result (λ spelled. IsReadBy letters text.now octets.new.items spelled) }
     ensures fault { IfErr result (λ fault. reading text.now ≡ Err fault) }
 {
-    let spelled = read_labels(octets, text)?;
-    set_letters(octets, letters);
-    Ok(spelled)
+    if text.is_empty() {
+        return Err(NameFault::EmptyLabel);
+    }
+    let mut label: ArrayVec<u8, MAX_LABEL_LEN> = ArrayVec::new();
+    let mut is_too_long = false;
+    let mut rest = text;
+    while !rest.is_empty() {
+        if let Some(after) = rest.strip_prefix(b".") {
+            if label.is_empty() {
+                return Err(NameFault::EmptyLabel);
+            }
+            is_too_long |= !append_label(octets, label.as_slice(), letters);
+            label.clear();
+            rest = after;
+        } else {
+            let NextUnit::Octet(octet, after) = next_unit(rest) else {
+                return Err(NameFault::BadEscape);
+            };
+            if label.is_full() {
+                return Err(NameFault::LabelTooLong);
+            }
+            label.push(octet);
+            rest = after;
+        }
+    }
+    let is_absolute = label.is_empty();
+    if !is_absolute {
+        is_too_long |= !append_label(octets, label.as_slice(), letters);
+    }
+    Ok(Spelled {
+        is_too_long,
+        is_absolute,
+    })
 }
 
 /// Puts the octets of the name of a text that is neither `.` nor `@` in place of those that are
@@ -512,8 +381,16 @@ fn replace(
     }
     octets.hold(b"\0");
     let mut read = ArrayVec::new();
-    let spelled = read_spelled(&mut read, text, letters)?;
-    finish(&mut read, spelled, origin)?;
+    let spelled = read_labels(&mut read, text, letters)?;
+    let ending: &[u8] = if spelled.is_absolute {
+        b"\0"
+    } else {
+        origin.ok_or(NameFault::RelativeName)?
+    };
+    if spelled.is_too_long || ending.len() > read.remaining_capacity() {
+        return Err(NameFault::NameTooLong);
+    }
+    let _ = read.try_extend_from_slice(ending);
     octets.hold(read.as_slice());
     Ok(())
 }

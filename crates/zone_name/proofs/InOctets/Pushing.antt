@@ -1,5 +1,6 @@
 -- A label that is added after others.
-use Rattle.zone_name.proofs.Common.{AllByRecursion, Err, HoldsCasedLabels, HoldsLabels, HoldsName, IsCasedLabel, IsCasedName, IsFoldedOctet, IsLabel, IsName, IsOk, List, NameTooLong, Ok, OnOk, Result, [], ap, append-nil, append_assoc, arith, common_steps, Folded, HoldsLabelsBy, Kept, Letters, drop, false≢true, flat_map, flat_map-append, folded, folded_label, folded_octet, get_or, labels_of, le-leb, length, length-append, length-map, lt-leb, map, map-append, nat_tests, refill, refl, sized, suc, take, take_all, take_at, to_ascii_lowercase, wire, with_length, ℕ, ◌++◌, ◌+◌, ◌<◌, ◌∙◌, ◌∷◌, ◌≡◌, ◌≤◌}
+use Rattle.zone_name.proofs.Common.{AllByRecursion, AreOctets, Err, HoldsCasedLabels, HoldsLabels, HoldsName, IsCasedLabel, IsCasedName, IsFoldedOctet, IsLabel, IsName, Joins, List, NameTooLong, Ok, [], ap, append-nil, append_assoc, arith, common_steps, Folded, HoldsLabelsBy, Kept, Letters, false, flat_map, flat_map-append, folded, folded_label, folded_octet, get_or, labels_of, le-leb, length, length-append, length-map, lt-leb, map, map-append, lettered_octet, nat_tests, refl, sized, suc, take, take_all, to_ascii_lowercase, true, wire, with_length, ℕ, ◌++◌, ◌+◌, ◌<◌, ◌∙◌, ◌∷◌, ◌≡◌, ◌≤◌}
+use Rattle.std.proofs.lemmas.List.{map-id, take-map}
 use Rattle.zone_name.proofs.InOctets.Octets.{labels_of-open, labels_of-open_cased, labels_of-wire, HoldsName-wire}
 
 -- each of the octets, by its place
@@ -53,8 +54,8 @@ pub labels_of-finish : (octets new : List ℕ) → HoldsLabels octets → new �
 labels_of-finish octets new holds e = grind (arith, labels_of-wire)
 
 -- a length and the octets after it, as they are pushed
-pub pushed_octets : (octets label pushed new : List ℕ) (n : ℕ) → pushed ≡ octets ++ length label ∷ [] → new ≡ pushed ++ map folded_octet (take n label) → length label ≤ n → new ≡ octets ++ with_length (folded_label label)
-pushed_octets octets label pushed new n first after all = grind (arith, take_all, append_assoc, length-map)
+pushed_octets : (f : ℕ → ℕ) (octets label pushed new : List ℕ) (n : ℕ) → pushed ≡ octets ++ length label ∷ [] → new ≡ pushed ++ map f (take n label) → length label ≤ n → new ≡ octets ++ with_length (map f label)
+pushed_octets f octets label pushed new n first after all = grind (arith, take_all, append_assoc, length-map)
 
 -- frames hold the labels
 pub HoldsCasedLabels-frames : (labels : List (List ℕ)) → IsCasedName labels → HoldsCasedLabels (flat_map with_length labels)
@@ -74,12 +75,12 @@ push_name : (letters : Letters) (labels : List (List ℕ)) (label : List ℕ) �
 push_name Kept labels label name is room = grind (arith, common_steps)
 push_name Folded labels label name is room = grind (arith, common_steps)
 
-pub record Pushed (letters : Letters) (octets label new : List ℕ) : Type 0 where
+record Pushed (letters : Letters) (octets label new : List ℕ) : Type 0 where
   pub holds : HoldsLabelsBy letters new
   pub gives : labels_of new ≡ labels_of octets ++ label ∷ []
 
 -- the octets of one more label after those that are held
-pub push_frame : (letters : Letters) (octets label new : List ℕ) → HoldsLabelsBy letters octets → IsLabelBy letters label → length octets + length label + 2 ≤ 255 → new ≡ octets ++ with_length label → Pushed letters octets label new
+push_frame : (letters : Letters) (octets label new : List ℕ) → HoldsLabelsBy letters octets → IsLabelBy letters label → length octets + length label + 2 ≤ 255 → new ≡ octets ++ with_length label → Pushed letters octets label new
 push_frame Kept octets label new holds is room e =
     let name = push_name Kept (labels_of octets) label holds.name is (rw holds.whole room) in
     grind (arith, frames_push, labels_of-open_cased)
@@ -87,9 +88,34 @@ push_frame Folded octets label new holds is room e =
     let name = push_name Folded (labels_of octets) label holds.name is (rw holds.whole room) in
     grind (arith, frames_push, labels_of-open)
 
+-- a label whose letters are folded or kept, after those that are held
+pub record Joined (letters : Letters) (octets label new : List ℕ) : Type 0 where
+  pub holds : HoldsLabelsBy letters new
+  pub joins : Joins letters (labels_of octets) label true (labels_of new)
+
+pub label_joined : (letters : Letters) (octets label pushed new : List ℕ) (n : ℕ) → HoldsLabelsBy letters octets → 0 < length label → length label ≤ 63 → AreOctets label → length octets + length label + 2 ≤ 255 → pushed ≡ octets ++ length label ∷ [] → new ≡ pushed ++ map (lettered_octet letters) (take n label) → length label ≤ n → Joined letters octets label new
+label_joined Kept octets label pushed new n holds some short each room first after all =
+    let p = push_frame Kept octets label new holds (record { some = some; short = short; each = each }) room (rw (map-id label) at (pushed_octets (λ c. c) octets label pushed new n first after all)) in
+    record { holds = p.holds; joins = p.gives }
+label_joined Folded octets label pushed new n holds some short each room first after all =
+    let p = push_frame Folded octets (folded_label label) new holds (IsLabel-folded label some short each) (omega (arith, room, length-map label folded_octet)) (pushed_octets folded_octet octets label pushed new n first after all) in
+    record { holds = p.holds; joins = p.gives }
+
+-- a label for which there is no room
+held_frames : (letters : Letters) (octets : List ℕ) → HoldsLabelsBy letters octets → flat_map with_length (labels_of octets) ≡ octets
+held_frames Kept octets holds = holds.whole
+held_frames Folded octets holds = holds.whole
+
+pub left_out : (letters : Letters) (octets label : List ℕ) → HoldsLabelsBy letters octets → 255 < length octets + length label + 2 → Joins letters (labels_of octets) label false (labels_of octets)
+left_out letters octets label holds over = (refl, omega (arith, over, ap length (held_frames letters octets holds), ap length (frames_push (labels_of octets) label), length-append (flat_map with_length (labels_of octets)) (with_length label), length-append (flat_map with_length (labels_of octets ++ label ∷ [])) (0 ∷ [])))
+
 -- no labels
-pub HoldsCasedLabels-nil : (octets : List ℕ) → octets ≡ [] → HoldsCasedLabels octets
+HoldsCasedLabels-nil : (octets : List ℕ) → octets ≡ [] → HoldsCasedLabels octets
 HoldsCasedLabels-nil octets e = grind (arith, labels_of-open_cased [] tt)
+
+pub held_none : (letters : Letters) (octets : List ℕ) → octets ≡ [] → HoldsLabelsBy letters octets
+held_none Kept octets e = HoldsCasedLabels-nil octets e
+held_none Folded octets e = HoldsLabels-nil octets e
 
 -- the lengths stay when the letters are folded
 pub folded_frames : (labels : List (List ℕ)) → AllByRecursion IsCasedLabel labels → map folded_octet (flat_map with_length labels) ≡ flat_map with_length (folded labels)
@@ -115,16 +141,9 @@ sized-name labels short = grind (arith, le-leb)
 pub sized-long : (labels : List (List ℕ)) → 255 < length (wire labels) → sized labels ≡ Err NameTooLong
 sized-long labels long = grind (arith, lt-leb)
 
--- what is written over all octets takes their place
-pub refilled : (octets new : List ℕ) → length new ≡ length octets → refill (length octets) octets new ≡ new
-refilled octets new same = take_at new (drop (length new) octets) (length octets) same
-
-pub folded_again : (octets lower : List ℕ) → lower ≡ map to_ascii_lowercase octets → refill (length octets) octets lower ≡ map folded_octet octets
-folded_again octets lower e = grind (arith, refilled, length-map)
-
--- an answer that is a value keeps what is promised of one
-pub taken : {T E P : Type 0} (result : Result T E) → IsOk result → OnOk result P → P
-taken result is holds = grind (arith, false≢true)
+-- the letters of a whole room are folded, those of its front too
+pub folded_front : (room lower : List ℕ) (len : ℕ) → lower ≡ map to_ascii_lowercase room → take len lower ≡ map folded_octet (take len room)
+folded_front room lower len e = grind (arith, take-map)
 
 pub ruleset no_labels = (HoldsLabels-nil, labels_of-none)
 

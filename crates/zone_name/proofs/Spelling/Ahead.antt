@@ -1,6 +1,10 @@
 -- What is ahead in a text, in the words of its spelling.
-use Rattle.zone_name.proofs.Common.{Ahead, BeginsWithUnit, Bool, IsBadEscape, IsUnit, List, Option, Written, [], ahead_in, arith, at_dot, at_end, at_fault, at_octet, both_ways, cases_Bool, common_steps, cond_both, eqb-true, false, is_dot, length, nat_eq, no_octet, octet_of, pointwise, take, text_of, unit_ahead, ℕ, ◌++◌, ◌<◌, ◌∷◌, ◌≡◌}
+use Rattle.zone_name.proofs.Common.{Ahead, BeginsWithUnit, Bool, IsBadEscape, IsUnit, List, Option, Written, [], ahead_in, ap, ap₂, arith, bytes_decides, drop, sym, true, take-append-drop, ◌∙◌, at_dot, at_end, at_fault, at_octet, both_ways, cases_Bool, common_steps, cond_both, eqb-true, false, is_dot, length, nat_eq, no_octet, octet_of, pointwise, refl, take, text_of, unit_ahead, ℕ, ◌++◌, ◌<◌, ◌∷◌, ◌≡◌}
 use Rattle.zone_name.proofs.Spelling.Units.{IsFirst, first_is}
+use Rattle.std.proofs.Common.{Bor}
+use Rattle.zone_name.specs.NextUnit.{IsNextUnit}
+use Rattle.zone_name.specs.declared.escape.NextUnit.{NextUnit}
+use Rattle.zone_name.specs.declared.escape.NextUnit.TheVariants.{BadEscape, End, Octet}
 
 -- what is ahead, said of the text there
 abbrev pub IsAhead : List ℕ → Ahead → Type 0
@@ -38,7 +42,16 @@ ahead-bad rest bad = grind (arith, ahead_is rest)
 
 -- the test of a dot at the beginning
 abbrev pub has_dot : List ℕ → Bool
-has_dot rest = pointwise nat_eq (46 ∷ []) (take 1 rest)
+has_dot rest = pointwise nat_eq (take 1 rest) (46 ∷ [])
+
+pub dot_seen : (rest after : List ℕ) → has_dot rest ≡ true → after ≡ drop 1 rest → rest ≡ 46 ∷ after
+dot_seen rest after dot is = sym (take-append-drop 1 rest) ∙ ap₂ (λ (s t : List ℕ). s ++ t) ((bytes_decides (take 1 rest) (46 ∷ [])).0 dot) (sym is)
 
 pub unit_seen : (rest after : List ℕ) (c : ℕ) → has_dot rest ≡ false → BeginsWithUnit no_octet rest c after → at_octet c after ≡ ahead_in rest
 unit_seen rest after c other begins = grind (arith, cases_Bool, both_ways, eqb-true, ahead-unit)
+
+-- no written octet, though the text goes on
+pub none_seen : (rest : List ℕ) (unit : NextUnit) → IsNextUnit rest unit → 0 < length rest → ((c : ℕ) (after : Bor (List ℕ)) → unit ≡ Octet c after → ⊥) → IsBadEscape rest
+none_seen rest End is some other = absurd (omega (arith, some, ap length is))
+none_seen rest (Octet c after) is some other = absurd (other c after refl)
+none_seen rest BadEscape is some other = is

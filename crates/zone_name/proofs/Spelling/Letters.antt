@@ -1,8 +1,5 @@
 -- Names whose letters are folded or kept when they are read.
-use Rattle.zone_name.proofs.Common.{Bool, Collects, Err, Folded, HoldsCasedLabels, HoldsLabelsBy, HoldsNameBy, IfErr, IfOk, IfSome, Kept, Letters, List, NameFault, NameTooLong, None, Ok, Option, Result, Some, Written, [], ap, append-nil, append_assoc, arith, common_steps, false, flat_map, flat_map-append, folded, folded_octet, kept, labels_of, length, length-append, length-take, lettered, lettered_in, map, name_read, origin_in, sized, sym, take, true, under_origin, wire, with_length, ℕ, ◌++◌, ◌+◌, ◌<◌, ◌∙◌, ◌∷◌, ◌≡◌, ◌≤◌}
-use Rattle.std.proofs.lemmas.Result.{IfErr-weaker, IfOk-weaker}
-use Rattle.zone_name.specs.Machine.Letters.{IsReadBy}
-use Rattle.zone_name.specs.Machine.Seen.{IsReadInto}
+use Rattle.zone_name.proofs.Common.{Bool, Err, Folded, HoldsCasedLabels, HoldsLabelsBy, HoldsNameBy, IfSome, IsReadBy, Kept, Letters, List, NameTooLong, None, Ok, Option, RelativeName, Some, Written, [], ap, append-nil, append_assoc, arith, common_steps, false, flat_map, flat_map-append, folded, folded_octet, kept, labels_of, length, length-append, length-take, lettered, lettered_in, map, name_read, origin_in, sized, sym, take, true, under_origin, wire, with_length, ℕ, ◌++◌, ◌+◌, ◌<◌, ◌∙◌, ◌∷◌, ◌≡◌, ◌≤◌}
 use Rattle.zone_name.specs.declared.reading.Spelled.{Spelled}
 use Rattle.zone_name.proofs.InOctets.Octets.{HoldsCasedName-wire, HoldsName-wire, labels_of-open, root_has_none, labels_of-wire, labels_of-wire_cased, root_held_cased, root_held}
 use Rattle.zone_name.proofs.InOctets.Pushing.{IsNameBy, folded_frames, folded_labels, folded_size, sized-name, sized-long}
@@ -62,62 +59,53 @@ root_holds Kept octets e = root_held_cased octets e
 pub lettered_size : (letters : Letters) (labels : List (List ℕ)) → length (wire (lettered letters labels)) ≡ length (wire labels)
 lettered_size letters labels = grind (arith, common_steps, folded_size)
 
--- labels that are held, or are too long, as their letters are folded
-lettered_collects : (letters : Letters) (held labels : List (List ℕ)) (is_too_long : Bool) → Collects held is_too_long labels → Collects (lettered letters held) is_too_long (lettered letters labels)
-lettered_collects letters held labels is_too_long over = grind (arith, common_steps, lettered_size)
-
-pub read_lettered : (letters : Letters) (text octets new : List ℕ) (spelled : Spelled) → labels_of new ≡ lettered letters (labels_of octets) → IsReadInto text octets spelled → IsReadBy letters text new spelled
-read_lettered letters text octets new spelled gives read =
-    (read.0, read.1, rw gives (lettered_collects letters (labels_of octets) read.0 spelled.is_too_long read.2))
-
 -- what ends the name of the labels that were spelled: the root, or the origin
-pub record Ends (origin : Option (List ℕ)) (spelled : Spelled) (ending : List ℕ) : Type 0 where
-  pub short : spelled.is_too_long ≡ false
-  pub under : (labels : List (List ℕ)) → under_origin (origin_in origin) (Ok (labels, spelled.is_absolute)) ≡ sized (labels ++ labels_of ending)
+pub record Ends (origin : Option (List ℕ)) (is_absolute : Bool) (ending : List ℕ) : Type 0 where
+  pub under : (labels : List (List ℕ)) → under_origin (origin_in origin) (Ok (labels, is_absolute)) ≡ sized (labels ++ labels_of ending)
   pub name : (letters : Letters) → IfSome origin (HoldsNameBy letters) → HoldsNameBy letters ending
 
-pub ends_root : (origin : Option (List ℕ)) (spelled : Spelled) → spelled.is_absolute ≡ true → spelled.is_too_long ≡ false → Ends origin spelled (0 ∷ [])
-ends_root origin spelled absolute short =
+pub ends_root : (origin : Option (List ℕ)) (is_absolute : Bool) → is_absolute ≡ true → Ends origin is_absolute (0 ∷ [])
+ends_root origin is_absolute absolute =
     grind (arith, common_steps, root_has_none, sized, append-nil, root_holds)
 
-pub ends_above : (origin : Option (List ℕ)) (above : List ℕ) (spelled : Spelled) → spelled.is_absolute ≡ false → origin ≡ Some above → spelled.is_too_long ≡ false → Ends origin spelled above
-ends_above origin above spelled relative is short = grind (arith, common_steps)
-
-pub finished : (origin : Option (List ℕ)) (spelled : Spelled) (octets ending new : List ℕ) (result : Result (Unit {0}) NameFault) → Ends origin spelled ending → IfOk result (λ _. (letters : Letters) → HoldsLabelsBy letters octets → HoldsNameBy letters ending → HoldsNameBy letters new × (sized (labels_of octets ++ labels_of ending) ≡ Ok (labels_of new))) → IfOk result (λ _. (letters : Letters) → HoldsLabelsBy letters octets → IfSome origin (HoldsNameBy letters) → HoldsNameBy letters new × ((labels : List (List ℕ)) → Collects (labels_of octets) spelled.is_too_long labels → under_origin (origin_in origin) (Ok (labels, spelled.is_absolute)) ≡ Ok (labels_of new)))
-finished origin spelled octets ending new result ends =
-    grind (arith, common_steps, IfOk-weaker)
-
-pub unfinished : (origin : Option (List ℕ)) (spelled : Spelled) (octets ending : List ℕ) (result : Result (Unit {0}) NameFault) → Ends origin spelled ending → IfErr result (λ fault. (letters : Letters) → HoldsLabelsBy letters octets → HoldsNameBy letters ending → sized (labels_of octets ++ labels_of ending) ≡ Err fault) → IfErr result (λ fault. (letters : Letters) → HoldsLabelsBy letters octets → IfSome origin (HoldsNameBy letters) → (labels : List (List ℕ)) → Collects (labels_of octets) spelled.is_too_long labels → under_origin (origin_in origin) (Ok (labels, spelled.is_absolute)) ≡ Err fault)
-unfinished origin spelled octets ending result ends = IfErr-weaker result _ _ (λ fault is letters holds known labels collects.
-    ends.under labels ∙ ap (λ ls. sized (ls ++ labels_of ending)) (sym (rw ends.short at collects)) ∙ is letters holds (ends.name letters known))
+pub ends_above : (origin : Option (List ℕ)) (above : List ℕ) (is_absolute : Bool) → is_absolute ≡ false → origin ≡ Some above → Ends origin is_absolute above
+ends_above origin above is_absolute relative is = grind (arith, common_steps)
 
 -- the octets of labels after others
 pub joined_size : (labels above : List (List ℕ)) → length (wire (labels ++ above)) + 1 ≡ length (wire labels) + length (wire above)
 joined_size labels above = omega (arith, ap length (flat_map-append with_length labels above), length-append (flat_map with_length labels) (flat_map with_length above), length-append (flat_map with_length labels) (0 ∷ []), length-append (flat_map with_length above) (0 ∷ []), length-append (flat_map with_length (labels ++ above)) (0 ∷ []))
 
-pub absolute_long : (origin : Option (List (List ℕ))) (spelled : Spelled) (held labels : List (List ℕ)) → spelled.is_absolute ≡ true → spelled.is_too_long ≡ true → Collects held spelled.is_too_long labels → under_origin origin (Ok (labels, spelled.is_absolute)) ≡ Err NameTooLong
-absolute_long origin spelled held labels absolute long collects =
-    grind (arith, common_steps, sized-long)
-
-pub relative_long : (origin : Option (List (List ℕ))) (above : List (List ℕ)) (spelled : Spelled) (held labels : List (List ℕ)) → spelled.is_absolute ≡ false → origin ≡ Some above → spelled.is_too_long ≡ true → Collects held spelled.is_too_long labels → under_origin origin (Ok (labels, spelled.is_absolute)) ≡ Err NameTooLong
-relative_long origin above spelled held labels relative is long collects =
-    grind (arith, common_steps, sized-long, joined_size, length-append)
-
 -- ---- the name that is made of what was read
 
-pub named_by : (letters : Letters) (origin : Option (List ℕ)) (text octets new : List ℕ) (spelled : Spelled) (result : Result (Unit {0}) NameFault) → HoldsLabelsBy letters octets → IsReadBy letters text octets spelled → IfSome origin (HoldsNameBy letters) → IfOk result (λ _. (by : Letters) → HoldsLabelsBy by octets → IfSome origin (HoldsNameBy by) → HoldsNameBy by new × ((labels : List (List ℕ)) → Collects (labels_of octets) spelled.is_too_long labels → under_origin (origin_in origin) (Ok (labels, spelled.is_absolute)) ≡ Ok (labels_of new))) → IfErr result (λ fault. (by : Letters) → HoldsLabelsBy by octets → IfSome origin (HoldsNameBy by) → (labels : List (List ℕ)) → Collects (labels_of octets) spelled.is_too_long labels → under_origin (origin_in origin) (Ok (labels, spelled.is_absolute)) ≡ Err fault) → IfOk result (λ _. HoldsNameBy letters new × (name_read letters (origin_in origin) text ≡ Ok (labels_of new))) × IfErr result (λ fault. name_read letters (origin_in origin) text ≡ Err fault)
-named_by letters origin text octets new spelled (Ok done) holds read known ok err =
-    grind (arith, common_steps)
-named_by letters origin text octets new spelled (Err fault) holds read known ok err =
-    (tt, ap (λ r. under_origin (origin_in origin) (lettered_in letters r)) read.1 ∙ err letters holds known (lettered letters read.0) read.2)
+module _ (letters : Letters) (origin : Option (List ℕ)) (text octets : List ℕ) (spelled : Spelled)
+    (read : IsReadBy letters text octets spelled) where
+  -- a relative text without an origin
+  pub unfounded_read : spelled.is_absolute ≡ false → origin ≡ None → name_read letters (origin_in origin) text ≡ Err RelativeName
+  unfounded_read relative none = grind (arith, common_steps)
+
+  module _ (ending : List ℕ) (ends : Ends origin spelled.is_absolute ending) where
+    read_under : name_read letters (origin_in origin) text ≡ sized (lettered letters read.0 ++ labels_of ending)
+    read_under = ap (λ r. under_origin (origin_in origin) (lettered_in letters r)) read.1 ∙ ends.under (lettered letters read.0)
+
+    held_under : spelled.is_too_long ≡ false → name_read letters (origin_in origin) text ≡ sized (labels_of octets ++ labels_of ending)
+    held_under short = read_under ∙ ap (λ ls. sized (ls ++ labels_of ending)) (sym (rw short at read.2))
+
+    pub long_labels : spelled.is_too_long ≡ true → name_read letters (origin_in origin) text ≡ Err NameTooLong
+    long_labels long = read_under ∙ sized-long (lettered letters read.0 ++ labels_of ending) (omega (arith, rw long at read.2, joined_size (lettered letters read.0) (labels_of ending), length-append (flat_map with_length (labels_of ending)) (0 ∷ [])))
+
+    pub long_ending : HoldsLabelsBy letters octets → IfSome origin (HoldsNameBy letters) → spelled.is_too_long ≡ false → 255 < length octets + length ending → name_read letters (origin_in origin) text ≡ Err NameTooLong
+    long_ending holds known short over = held_under short ∙ joined_long octets ending over letters holds (ends.name letters known)
+
+    pub named : (new : List ℕ) → HoldsLabelsBy letters octets → IfSome origin (HoldsNameBy letters) → spelled.is_too_long ≡ false → new ≡ octets ++ ending → length octets + length ending ≤ 255 → HoldsNameBy letters new × (name_read letters (origin_in origin) text ≡ Ok (labels_of new))
+    named new holds known short is room =
+        let both = ended_with letters octets ending new holds (ends.name letters known) is room in
+        (both.0, held_under short ∙ both.1)
 
 -- where an ending that there is room for comes after the labels
-pub ended_name : (letters : Letters) (origin : Option (List ℕ)) (text octets ending room : List ℕ) (spelled : Spelled) (result : Option ℕ) → HoldsLabelsBy letters octets → IsReadBy letters text octets spelled → IfSome origin (HoldsNameBy letters) → Ends origin spelled ending → length room ≤ 255 → IfSome result (λ n. n ≤ length room) → IfSome result (λ n. take n room ≡ octets ++ ending) → IfSome result (λ n. HoldsNameBy letters (take n room) × (name_read letters (origin_in origin) text ≡ Ok (labels_of (take n room))))
-ended_name letters origin text octets ending room spelled (Some n) holds read known ends fits within is =
-    let few : length octets + length ending ≤ 255 = omega (arith, fits, within, length-take n room, ap length is, length-append octets ending) in
-    (named_by letters origin text octets (take n room) spelled (Ok tt) holds read known
-    (finished origin spelled octets ending (take n room) (Ok tt) ends (λ by labels name. ended_with by octets ending (take n room) labels name is few)) tt).0
-ended_name letters origin text octets ending room spelled None holds read known ends fits within is = tt
+pub ended_name : (letters : Letters) (origin : Option (List ℕ)) (text octets ending room : List ℕ) (spelled : Spelled) (result : Option ℕ) → HoldsLabelsBy letters octets → IsReadBy letters text octets spelled → IfSome origin (HoldsNameBy letters) → Ends origin spelled.is_absolute ending → spelled.is_too_long ≡ false → length room ≤ 255 → IfSome result (λ n. n ≤ length room) → IfSome result (λ n. take n room ≡ octets ++ ending) → IfSome result (λ n. HoldsNameBy letters (take n room) × (name_read letters (origin_in origin) text ≡ Ok (labels_of (take n room))))
+ended_name letters origin text octets ending room spelled (Some n) holds read known ends short fits within is =
+    named letters origin text octets spelled read ending ends (take n room) holds known short is (omega (arith, fits, within, length-take n room, ap length is, length-append octets ending))
+ended_name letters origin text octets ending room spelled None holds read known ends short fits within is = tt
 
 -- ---- what is known of octets that hold a name
 
@@ -127,5 +115,3 @@ held_short Folded octets holds = rw holds.whole at holds.name.short
 
 pub held_origin : (letters : Letters) (origin : Option (List ℕ)) → IfSome origin (HoldsNameBy letters) → IfSome (origin_in origin) (IsNameBy letters)
 held_origin letters origin known = grind (arith, common_steps, held_name)
-
-pub ruleset name_ends = (absolute_long, relative_long, finished, unfinished, ends_above)

@@ -1,7 +1,7 @@
 -- Names that are read with their letters kept or folded.
-use Rattle.std.specs.Prelude.{◌≡◌, ℕ, List, Bool, Option, Result, Ok, Err, option_map}
+use Rattle.std.specs.Prelude.{◌≡◌, ℕ, ◌<◌, List, [], ◌∷◌, ◌++◌, length, Bool, true, false, Option, Result, Ok, Err, option_map}
 use Rattle.zone_name.specs.Common.{Labels}
-use Rattle.zone_name.specs.Name.{folded, labels_of, HoldsCasedName, HoldsLabels, HoldsName}
+use Rattle.zone_name.specs.Name.{folded, folded_octet, labels_of, wire, HoldsCasedName, HoldsLabels, HoldsName}
 use Rattle.zone_name.specs.Spelling.{Spells, SpellsCased}
 use Rattle.zone_name.specs.Machine.LabelWalk.{Collects, reading, under_origin}
 use Rattle.zone_name.specs.Machine.Seen.{HoldsCasedLabels}
@@ -9,6 +9,11 @@ use Rattle.zone_name.specs.declared.fault.NameFault.{NameFault}
 use Rattle.zone_name.specs.declared.reading.Letters.{Letters}
 use Rattle.zone_name.specs.declared.reading.Letters.TheVariants.{Kept, Folded}
 use Rattle.zone_name.specs.declared.reading.Spelled.{Spelled}
+
+-- what becomes of an octet of a label
+abbrev pub lettered_octet : Letters → ℕ → ℕ
+lettered_octet Kept = λ c. c
+lettered_octet Folded = folded_octet
 
 -- what becomes of labels
 abbrev pub lettered : Letters → Labels → Labels
@@ -41,6 +46,12 @@ origin_in = option_map labels_of
 -- the name of the labels that are read
 abbrev pub name_read : Letters → Option Labels → List ℕ → Result Labels NameFault
 name_read letters origin text = under_origin origin (lettered_in letters (reading text))
+
+-- a label is added after others, or left out where it makes them too long
+abbrev pub Joins : Letters → Labels → List ℕ → Bool → Labels → Type 0
+Joins letters before label true after = after ≡ before ++ lettered letters (label ∷ [])
+Joins letters before label false after =
+    (after ≡ before) × (255 < length (wire (before ++ label ∷ [])))
 
 -- the labels that a text spells are in octets with their letters kept or folded, or take too many
 -- octets for a name

@@ -1,16 +1,41 @@
-use Rattle.zone_name.proofs.Common.{Err, Ok, ap, err_from_is_err_and, labels_of, option_copied, sym, ◌∙◌, ◌≡◌}
-use Rattle.zone_name.proofs.Spelling.Letters.{named_by}
+use Rattle.std.specs.Result.{result_ok}
+use Rattle.zone_name.proofs.Common.{IsOk, Ok, OnOk, Result, ap, arith, false≢true, labels_of, length, option_copied, sym, ◌+◌, ◌∙◌, ◌≡◌, ◌≤◌}
+use Rattle.zone_name.proofs.Spelling.Letters.{Ends, ends_above, ends_root, long_ending, long_labels, named}
 use Rattle.zone_name.proofs.reading.replace.Goals as goal
+use Rattle.zone_name.proofs.reading.replace.Goals.{then-spelled, else-spelled+in_ok-ending, then-spelled-2-via-then-spelled-2, then-spelled-2-via-else-spelled-2+then-ending-remaining_capacity}
+
+-- an answer that is a value keeps what is promised of one
+taken : {T E P : Type 0} (result : Result T E) → IsOk result → OnOk result P → P
+taken result is holds = grind (arith, false≢true)
 
 pub returns : goal.returns
 returns c =
-    let read = c.finish.new.octets.items in
-    let held : c.hold-2.new.self ≡ read = c.hold-2.ensures ∙ c.as_slice.ensures.value in
-    let named = (named_by c.args.letters (option_copied c.args.origin) c.args.text.now c.read_spelled.new.octets.items read c.in_ok-spelled.spelled (Ok tt) c.in_ok-spelled.ensures.holds c.in_ok-spelled.ensures.labels c.requires c.in_ok-finish.ensures.ok tt).0 in
-    record { holds = rw held named.0; ok = named.1 ∙ ap (λ o. Ok (labels_of o)) (sym held); err = tt; root = tt }
+    let origin = option_copied c.args.origin in
+    let spelled = c.in_ok-spelled.spelled in
+    let octets = c.read_labels.new.octets.items in
+    let ending = c.if-spelled.ending.now in
+    let ends : Ends origin spelled.is_absolute ending = elim c.if-spelled.branch [
+      | then-spelled w ↦ rw w.ending-is (ends_root origin _ w.if-spelled.true)
+      | else-spelled+in_ok-ending w ↦ rw w.ending-is (ends_above origin _ _ w.if-spelled.false (ap option_copied (w.ok_or.ensures.ok_part ∙ ap result_ok w.in_ok-ending.was)))
+    ] in
+    let extended = c.try_extend_from_slice in
+    let room : length octets + length ending ≤ 255 = omega (arith, c.remaining_capacity.ensures, c.if-ending-remaining_capacity.false) in
+    let is = taken extended.result (extended.ensures.variant.1 room) extended.ensures.ok in
+    let held : c.hold-2.new.self ≡ extended.new.self.items = c.hold-2.ensures ∙ c.as_slice.ensures.value in
+    let both = named c.args.letters origin c.args.text.now octets spelled c.in_ok-spelled.ensures.labels ending ends extended.new.self.items c.read_labels.ensures.holds c.requires c.if-spelled-2.false is room in
+    record { holds = rw held both.0; ok = both.1 ∙ ap (λ o. Ok (labels_of o)) (sym held); err = tt; root = tt }
 
-pub returns-in_err-finish-clause-err : goal.returns-in_err-finish-clause-err
-returns-in_err-finish-clause-err c =
-    let named = (named_by c.args.letters (option_copied c.args.origin) c.args.text.now c.read_spelled.new.octets.items c.finish.new.octets.items c.in_ok-spelled.spelled (Err c.in_err-finish.field-0.0) c.in_ok-spelled.ensures.holds c.in_ok-spelled.ensures.labels c.requires tt c.in_err-finish.ensures.err).1 in
-    let p = err_from_is_err_and c.from_residual-in_err-finish.result c.from_residual-in_err-finish.ensures.1 in
-    rw p.1 (named ∙ ap (λ f. Err f) (sym p.2))
+pub returns-then-spelled-2-clause-err : goal.returns-then-spelled-2-clause-err
+returns-then-spelled-2-clause-err c =
+    let origin = option_copied c.args.origin in
+    let spelled = c.in_ok-spelled.spelled in
+    let octets = c.read_labels.new.octets.items in
+    let ending = c.if-spelled.ending.now in
+    let ends : Ends origin spelled.is_absolute ending = elim c.if-spelled.branch [
+      | then-spelled w ↦ rw w.ending-is (ends_root origin _ w.if-spelled.true)
+      | else-spelled+in_ok-ending w ↦ rw w.ending-is (ends_above origin _ _ w.if-spelled.false (ap option_copied (w.ok_or.ensures.ok_part ∙ ap result_ok w.in_ok-ending.was)))
+    ] in
+    elim c.then-spelled-2.branch [
+      | then-spelled-2-via-then-spelled-2 w ↦ long_labels c.args.letters origin c.args.text.now octets spelled c.in_ok-spelled.ensures.labels ending ends w.if-spelled-2.true
+      | then-spelled-2-via-else-spelled-2+then-ending-remaining_capacity w ↦ long_ending c.args.letters origin c.args.text.now octets spelled c.in_ok-spelled.ensures.labels ending ends c.read_labels.ensures.holds c.requires w.if-spelled-2.false (omega (arith, w.remaining_capacity.ensures, w.if-ending-remaining_capacity.true))
+    ]
