@@ -41,7 +41,7 @@ pub fn escape_at(after: &[u8]) -> Option<(u8, &[u8])>
     ensures none { IfNone result (IsBadEscape (92 ∷ after.now)) }
 {
     let (first, rest) = after.split_first()?;
-    if is_decimal_digit(*first) {
+    if first.is_ascii_digit() {
         digits_at(*first, rest)
     } else if *first == b'\n' || *first == b'\r' {
         None
@@ -58,7 +58,7 @@ fn digits_at(first: u8, after: &[u8]) -> Option<(u8, &[u8])>
 {
     match after {
         [second, third, rest @ ..] => {
-            if !is_decimal_digit(*second) || !is_decimal_digit(*third) {
+            if !second.is_ascii_digit() || !third.is_ascii_digit() {
                 return None;
             }
             let value = 100 * (first - b'0') as u16
@@ -84,13 +84,6 @@ pub fn decimal_escape(octet: u8) -> [u8; 4]
         b'0' + octet / 10 % 10,
         b'0' + octet % 10,
     ]
-}
-
-/// Whether the octet is a digit.
-fn is_decimal_digit(octet: u8) -> bool
-    ensures { result ≡ is_digit octet }
-{
-    octet >= b'0' && octet <= b'9'
 }
 
 /// Whether the octet means something else inside a master file, and takes a backslash (RFC 1035

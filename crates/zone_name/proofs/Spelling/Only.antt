@@ -1,5 +1,5 @@
 -- What a text spells, and its own first fault, is what the walk over it finds.
-use Rattle.zone_name.proofs.Common.{common_steps, Ahead, AllByRecursion, AreWrittenLabels, BadEscape, EmptyLabel, EndsLabel, Err, FaultAt, IsUnit, IsWrittenLabel, Kept, LabelTooLong, List, NameFault, Ok, Reaches, Written, [], ahead_in, ap, append-nil, append_assoc, arith, at_dot, at_fault, at_octet, bad_escape, dotted, empty_label, failed, false, inl, inr, is_dot, kept, length, length-append, length-map, long_label, octet_of, parted, read, refl, step_at, subst, sym, text_of, true, written_octets, written_text, ℕ, ◌++◌, ◌+◌, ◌<◌, ◌∙◌, ◌∷◌, ◌≡◌, ◌≤◌}
+use Rattle.zone_name.proofs.Common.{common_steps, Ahead, AllByRecursion, AreWrittenLabels, BadEscape, EmptyLabel, EndsLabel, Err, FaultAt, IsUnit, IsWrittenLabel, Kept, LabelTooLong, List, NameFault, Ok, Reaches, Written, [], ahead_in, ap, append-nil, append_assoc, arith, at_dot, at_fault, at_octet, bad_escape, dotted, empty_label, failed, false, inl, inr, is_dot, kept, length, length-append, length-map, long_label, octet_of, parted, refl, step_at, subst, sym, text_of, true, written_octets, written_text, ℕ, ◌++◌, ◌+◌, ◌<◌, ◌∙◌, ◌∷◌, ◌≡◌, ◌≤◌}
 use Rattle.zone_name.specs.Machine.LabelWalk.{reading}
 use Rattle.zone_name.proofs.Spelling.Ahead.{ahead-unit, ahead-bad}
 use Rattle.zone_name.proofs.Spelling.Units.{text_of-some}
