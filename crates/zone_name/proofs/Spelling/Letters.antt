@@ -1,5 +1,5 @@
 -- Names whose letters are folded or kept when they are read.
-use Rattle.zone_name.proofs.Common.{Bool, Err, Folded, HoldsCasedLabels, HoldsLabelsBy, HoldsNameBy, IfSome, IsReadBy, Kept, Letters, List, NameTooLong, None, Ok, Option, RelativeName, Some, Written, [], ap, append-nil, append_assoc, arith, common_steps, false, flat_map, flat_map-append, folded, folded_octet, kept, labels_of, length, length-append, length-take, lettered, lettered_in, map, name_read, origin_in, sized, sym, take, true, under_origin, wire, with_length, ℕ, ◌++◌, ◌+◌, ◌<◌, ◌∙◌, ◌∷◌, ◌≡◌, ◌≤◌}
+use Rattle.zone_name.proofs.Common.{Bool, Err, Folded, HoldsCasedLabels, HoldsLabelsBy, HoldsNameBy, IfSome, IsReadBy, Kept, Letters, List, NameTooLong, None, Ok, Option, Some, Written, [], ap, append-nil, append_assoc, arith, common_steps, false, flat_map, flat_map-append, folded, folded_octet, kept, labels_of, length, length-append, length-take, lettered, lettered_in, map, name_read, origin_in, sized, sym, take, true, under_origin, wire, with_length, ℕ, ◌++◌, ◌+◌, ◌<◌, ◌∙◌, ◌∷◌, ◌≡◌, ◌≤◌}
 use Rattle.zone_name.specs.declared.reading.Spelled.{Spelled}
 use Rattle.zone_name.proofs.InOctets.Octets.{HoldsCasedName-wire, HoldsName-wire, labels_of-open, root_has_none, labels_of-wire, labels_of-wire_cased, root_held_cased, root_held}
 use Rattle.zone_name.proofs.InOctets.Pushing.{IsNameBy, folded_frames, folded_labels, folded_size, sized-name, sized-long}
@@ -78,28 +78,24 @@ joined_size labels above = omega (arith, ap length (flat_map-append with_length 
 -- ---- the name that is made of what was read
 
 module _ (letters : Letters) (origin : Option (List ℕ)) (text octets : List ℕ) (spelled : Spelled)
-    (read : IsReadBy letters text octets spelled) where
-  -- a relative text without an origin
-  pub unfounded_read : spelled.is_absolute ≡ false → origin ≡ None → name_read letters (origin_in origin) text ≡ Err RelativeName
-  unfounded_read relative none = grind (arith, common_steps)
+    (read : IsReadBy letters text octets spelled)
+    (ending : List ℕ) (ends : Ends origin spelled.is_absolute ending) where
+  read_under : name_read letters (origin_in origin) text ≡ sized (lettered letters read.0 ++ labels_of ending)
+  read_under = ap (λ r. under_origin (origin_in origin) (lettered_in letters r)) read.1 ∙ ends.under (lettered letters read.0)
 
-  module _ (ending : List ℕ) (ends : Ends origin spelled.is_absolute ending) where
-    read_under : name_read letters (origin_in origin) text ≡ sized (lettered letters read.0 ++ labels_of ending)
-    read_under = ap (λ r. under_origin (origin_in origin) (lettered_in letters r)) read.1 ∙ ends.under (lettered letters read.0)
+  held_under : spelled.is_too_long ≡ false → name_read letters (origin_in origin) text ≡ sized (labels_of octets ++ labels_of ending)
+  held_under short = read_under ∙ ap (λ ls. sized (ls ++ labels_of ending)) (sym (rw short at read.2))
 
-    held_under : spelled.is_too_long ≡ false → name_read letters (origin_in origin) text ≡ sized (labels_of octets ++ labels_of ending)
-    held_under short = read_under ∙ ap (λ ls. sized (ls ++ labels_of ending)) (sym (rw short at read.2))
+  pub long_labels : spelled.is_too_long ≡ true → name_read letters (origin_in origin) text ≡ Err NameTooLong
+  long_labels long = read_under ∙ sized-long (lettered letters read.0 ++ labels_of ending) (omega (arith, rw long at read.2, joined_size (lettered letters read.0) (labels_of ending), length-append (flat_map with_length (labels_of ending)) (0 ∷ [])))
 
-    pub long_labels : spelled.is_too_long ≡ true → name_read letters (origin_in origin) text ≡ Err NameTooLong
-    long_labels long = read_under ∙ sized-long (lettered letters read.0 ++ labels_of ending) (omega (arith, rw long at read.2, joined_size (lettered letters read.0) (labels_of ending), length-append (flat_map with_length (labels_of ending)) (0 ∷ [])))
+  pub long_ending : HoldsLabelsBy letters octets → IfSome origin (HoldsNameBy letters) → spelled.is_too_long ≡ false → 255 < length octets + length ending → name_read letters (origin_in origin) text ≡ Err NameTooLong
+  long_ending holds known short over = held_under short ∙ joined_long octets ending over letters holds (ends.name letters known)
 
-    pub long_ending : HoldsLabelsBy letters octets → IfSome origin (HoldsNameBy letters) → spelled.is_too_long ≡ false → 255 < length octets + length ending → name_read letters (origin_in origin) text ≡ Err NameTooLong
-    long_ending holds known short over = held_under short ∙ joined_long octets ending over letters holds (ends.name letters known)
-
-    pub named : (new : List ℕ) → HoldsLabelsBy letters octets → IfSome origin (HoldsNameBy letters) → spelled.is_too_long ≡ false → new ≡ octets ++ ending → length octets + length ending ≤ 255 → HoldsNameBy letters new × (name_read letters (origin_in origin) text ≡ Ok (labels_of new))
-    named new holds known short is room =
-        let both = ended_with letters octets ending new holds (ends.name letters known) is room in
-        (both.0, held_under short ∙ both.1)
+  pub named : (new : List ℕ) → HoldsLabelsBy letters octets → IfSome origin (HoldsNameBy letters) → spelled.is_too_long ≡ false → new ≡ octets ++ ending → length octets + length ending ≤ 255 → HoldsNameBy letters new × (name_read letters (origin_in origin) text ≡ Ok (labels_of new))
+  named new holds known short is room =
+      let both = ended_with letters octets ending new holds (ends.name letters known) is room in
+      (both.0, held_under short ∙ both.1)
 
 -- where an ending that there is room for comes after the labels
 pub ended_name : (letters : Letters) (origin : Option (List ℕ)) (text octets ending room : List ℕ) (spelled : Spelled) (result : Option ℕ) → HoldsLabelsBy letters octets → IsReadBy letters text octets spelled → IfSome origin (HoldsNameBy letters) → Ends origin spelled.is_absolute ending → spelled.is_too_long ≡ false → length room ≤ 255 → IfSome result (λ n. n ≤ length room) → IfSome result (λ n. take n room ≡ octets ++ ending) → IfSome result (λ n. HoldsNameBy letters (take n room) × (name_read letters (origin_in origin) text ≡ Ok (labels_of (take n room))))
