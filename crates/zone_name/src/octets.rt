@@ -63,7 +63,8 @@ impl NameOctets {
         &self.room[..self.len]
     }
 
-    /// Puts the letters in lower case (RFC 4343 3). A label's length is no letter, and stays.
+    /// Puts the letters of the whole room in lower case (RFC 4343 3). A label's length is no letter,
+    /// and stays.
     #[tactic(auto, using(crate::proofs::InOctets::Pushing::folded_front))]
     pub(crate) fn fold(&mut self)
         ensures { self.new ≡ map folded_octet self.old }
