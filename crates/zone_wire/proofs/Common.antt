@@ -56,16 +56,16 @@ pub use Rattle.zone_wire.specs.Machine.Data.{name_before, sized_before, strings_
 unfoldable pub use Rattle.zone_wire.specs.Machine.Data.{data_at, value_at}
 pub use Rattle.zone_wire.specs.Machine.DataReading.{Awaits, AwaitsStrings, IsRead, IsReadyFor, PutsValue, PutsValues, Reads, TakesOctets, data_of, next_value, parts_for, put_after}
 pub use Rattle.zone_wire.specs.Machine.Feeding.{Follow, Going, IsCut}
-pub use Rattle.zone_wire.specs.Machine.Finding.{Outcome, Says, after_label, after_pointer, named, refused}
+pub use Rattle.zone_wire.specs.Machine.Finding.{Outcome, after_label, after_pointer, named, refused}
 unfoldable pub use Rattle.zone_wire.specs.Machine.Finding.{outcome}
 pub use Rattle.zone_wire.specs.Machine.Parsing.{AreRecordsAt, HasRecordsFrom, IsParsed, name_end_of, parsed, part_end_of, raw_from, run_end_of, sections_or_none}
 pub use Rattle.zone_wire.specs.Machine.Room.{IsRoom, IsRun}
 pub use Rattle.zone_wire.specs.Machine.Sections.{after_header, and_then, at_offset, each_from, inside, question_at, questions_from, record_at, records_from, to_the_end, unless_faulted}
 unfoldable pub use Rattle.zone_wire.specs.Machine.Sections.{header_fault, sections_of}
-pub use Rattle.zone_wire.specs.Machine.Spot.{known_of, spot_of}
+pub use Rattle.zone_wire.specs.Machine.Spot.{IsSound, spot_of}
 pub use Rattle.zone_wire.proofs.Records.NextAnswers.{Answered, answers_of, asks_for, before_others, has_first_id, is_no_class, of_answers, of_sections}
 unfoldable pub use Rattle.zone_wire.proofs.Records.NextAnswers.{answer_record, next_message, own_record, stream_records}
-pub use Rattle.zone_wire.specs.Machine.Transferring.{Among, Gains, Hands, HeadFault, IfNoMemory, IsAfter, ReadsNext, StopsIn, Takes, TakesEach, TakesHead, TakesMessage, TakesMessageUpTo, TakesUpTo, TakesWhole, other_id, other_zone, zone_held, zone_with}
+pub use Rattle.zone_wire.specs.Machine.Transferring.{Among, Gains, Hands, HeadFault, IfNoMemory, IsAfter, IsRefused, IsTaken, ReadsNext, StopsIn, Takes, TakesEach, TakesHead, TakesMessage, TakesMessageUpTo, TakesUpTo, TakesWhole, other_id, other_zone, zone_held, zone_with}
 pub use Rattle.zone_wire.specs.Machine.Walk.{Spot, label_of, outset, past_label, past_pointer, pointer_of, walk_on}
 unfoldable pub use Rattle.zone_wire.specs.Machine.Walk.{ending, standing_in, walk, walk_by}
 pub use Rattle.zone_wire.specs.Message.{AreAt, HasCounts, HasHeader, IsMessage, IsPartAt, IsQuestionAt, IsRecordAt, IsResponse, QuestionAt, RecordAt, Sections, ancount_of, arcount_of, qdcount_of, question_by, record_by, u16_at, u32_at}
@@ -80,5 +80,4 @@ pub use Rattle.zone_wire.specs.Visits.{LeadToLast, is_label, labels_in, pointers
 pub use Rattle.zone_wire.specs.Walk.{FaultHere, IsWalk, NameFault, Standing, Visit, Walks, at_fault, at_label, at_pointer, at_root, by_pointer, outside, over_label, to_fault, to_root, visit}
 pub use Rattle.zone_wire.specs.declared.cursor.Cursor.{Cursor}
 pub use Rattle.zone_wire.specs.declared.message.Question.{Question}
-pub use Rattle.zone_wire.specs.declared.spot.KnownStanding.{KnownStanding}
 pub use Rattle.zone_wire.specs.declared.transfer.Transfer.{Transfer}

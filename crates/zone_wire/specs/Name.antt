@@ -58,6 +58,12 @@ pub record IsNameAt (message : List ℕ) (offset : ℕ) (found : Found) : Type 0
   pub name : IsName found.labels
   pub few : found.pointers ≤ 128
 
+-- what holds of each name, its message and its offset
+abbrev pub OfEachName : (List ℕ → ℕ → Found → Type 0) → Type 0
+OfEachName Holds =
+    (message : List ℕ) (offset : ℕ) (found : Found) → IsNameAt message offset found
+    → Holds message offset found
+
 -- what was decoded, with the number of its pointers
 abbrev pub found_by : Decoded → ℕ → Found
 found_by d pointers = record { labels = d.name; end = d.end; steps = d.steps; pointers = pointers }

@@ -66,3 +66,9 @@ IsWalk message start visits ending = Walks message start start 0 0 visits ending
 -- the walk of the name at an offset ends with a fault
 abbrev pub NameFault : List ℕ → ℕ → Fault → Type 0
 NameFault message start fault = (visits : List Visit) × IsWalk message start visits (Some fault)
+
+-- what holds of the places of each walk, and of the message
+abbrev pub OfEachWalk : (List ℕ → List Visit → Type 0) → Type 0
+OfEachWalk Holds =
+    (message : List ℕ) (start : ℕ) (visits : List Visit) (ending : Option Fault)
+    → IsWalk message start visits ending → Holds message visits

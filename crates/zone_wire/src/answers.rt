@@ -4,9 +4,9 @@ ghost use Rattle.zone_wire.specs.Name.{Found};
 ghost use Rattle.zone_wire.specs.View.{raw_at, raw_with};
 
 use crate::header::RECORD_HEAD_LEN;
-use crate::known_name::read_known;
 use crate::labels::LabelRoom;
 use crate::lent::RawRrRef;
+use crate::name::read_name;
 use crate::number::{u16_at, u32_at};
 use crate::raw::{RawFields, RawRr};
 use std::marker::Model;
@@ -78,7 +78,9 @@ fn record_at<'m, 'r>(
     ensures octets { result.octets ≡ message.now }
     ensures at { IsRecordAt message.now offset result.at }
 {
-    let (end, _) = read_known(message, offset, labels);
+    let Ok((end, _)) = read_name(message, offset, true, labels) else {
+        unreachable!()
+    };
     RawRrRef {
         owner: labels.lend(),
         fields: fields_after(message, offset, end),

@@ -88,7 +88,7 @@ impl<'m> Cursor<'m> {
         ensures found { OnOk result (Reads self.old self.new Name (name labels.new)) }
         ensures fault { IfErr result (λ c. next_value self.old Name ≡ Err (fault_for c)) }
     {
-        match read_name(self.message, self.at, labels) {
+        match read_name(self.message, self.at, false, labels) {
             Err((cause, _)) => Err(cause),
             Ok((past, _)) if past > self.end => Err(Cause::BadRdata),
             Ok((past, _)) => {

@@ -104,14 +104,6 @@ impl Framer {
         }
     }
 
-    /// Begins a frame.
-    pub(crate) fn drop_unfinished(&mut self)
-        ensures none { self.new.unfinished.items ≡ [] }
-        ensures transfer { self.new.transfer ≡ self.old.transfer }
-    {
-        self.unfinished.clear();
-    }
-
     /// Takes the end of the stream.
     pub(crate) fn finish(&mut self)
         requires fits { self.old.transfer.messages + 1 < 2 ^ 64 }
@@ -125,7 +117,7 @@ impl Framer {
         if self.transfer.decided.ending.is_none() {
             self.transfer.decided.ending = self.end();
         }
-        self.drop_unfinished();
+        self.unfinished.clear();
     }
 
     /// How the stream ends after frames without a fault.
@@ -145,15 +137,6 @@ impl Framer {
             None
         }
     }
-}
-
-/// The number of octets that end inside a frame, at most 65,536.
-pub(crate) fn cut_len(octets: &[u8]) -> usize
-    requires { IsCut octets.now }
-    ensures len { result ≡ length octets.now }
-    ensures few { result ≤ longest_message + 1 }
-{
-    octets.len()
 }
 
 /// The message of a frame, after its length.

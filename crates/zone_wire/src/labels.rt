@@ -95,29 +95,14 @@ fn copy_folded(message: &[u8], start: usize, size: usize, room: &mut [u8], at: u
         ≡ take at room.old ++ map folded_octet (take size (drop start message.now)) }
 {
     if start + size + LANES > message.len() {
-        return copy_each(message, start, size, room, at);
+        room[at..at + size].copy_from_slice(&message[start..start + size]);
+        room[at..at + size].make_ascii_lowercase();
+        return;
     }
     let mut done = 0;
     while done < size {
         copy_lanes(message, start + done, room, at + done);
         done += LANES;
-    }
-}
-
-/// `copy_folded`, octet by octet.
-#[cold]
-#[inline(never)]
-#[tactic(auto, using(crate::proofs::Names::RunLaws::octets_are_copied))]
-fn copy_each(message: &[u8], start: usize, size: usize, room: &mut [u8], at: usize)
-    requires part { start + size ≤ length message.now }
-    requires room { at + size ≤ length room.old }
-    ensures { take (at + size) room.new
-        ≡ take at room.old ++ map folded_octet (take size (drop start message.now)) }
-{
-    let mut done = 0;
-    while done < size {
-        room[at + done] = message[start + done].to_ascii_lowercase();
-        done += 1;
     }
 }
 

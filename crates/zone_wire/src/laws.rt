@@ -8,7 +8,7 @@ ghost use Rattle.std.specs.Prelude.{◌++◌, Some, ◌≡◌, ◌+◌, ◌≤�
 ghost use Rattle.std.specs.List.{AllByRecursion};
 ghost use Rattle.zone_name.specs.Common.{AtMostOneIs, IsVerdict, Octets};
 ghost use Rattle.zone_wire.specs.Message.{RecordAt, IsMessage};
-ghost use Rattle.zone_wire.specs.Name.{Found, IsNameAt};
+ghost use Rattle.zone_wire.specs.Name.{Found, IsNameAt, OfEachName};
 ghost use Rattle.zone_wire.specs.Transfer.{IsDataAt, StreamStates};
 ghost use Rattle.zone_wire.specs.DataFault.{DataFault};
 ghost use Rattle.zone_wire.specs.MessageFault.{MessageFault};
@@ -18,7 +18,7 @@ ghost use Rattle.zone_rdata.specs.declared.fault.Fault.{Fault};
 ghost use Rattle.zone_rdata.specs.declared.fault.Place.{Place};
 ghost use Rattle.zone_rdata.specs.declared.record.Placed.{Placed};
 ghost use Rattle.zone_wire.specs.Visits.{labels_in, pointers_in, LeadToLast};
-ghost use Rattle.zone_wire.specs.Walk.{Visit, IsWalk};
+ghost use Rattle.zone_wire.specs.Walk.{Visit, IsWalk, OfEachWalk};
 
 /// At most one name stands at an offset of a message.
 #[tactic(auto, using(crate::proofs::Names::Walking::one_name))]
@@ -29,43 +29,23 @@ pub fn one_name_at_an_offset()
 /// A name in a message has at most 127 labels, 128 pointers and 256 steps, and ends in the message.
 #[tactic(auto, using(crate::proofs::Names::Walking::name_bounds))]
 pub fn a_name_is_bounded()
-    ensures labels { (message : Octets) (offset : ℕ) (found : Found) → IsNameAt message offset found
-        → length found.labels ≤ 127 }
-    ensures pointers { (message : Octets) (offset : ℕ) (found : Found)
-        → IsNameAt message offset found
-        → found.pointers ≤ 128 }
-    ensures steps { (message : Octets) (offset : ℕ) (found : Found) → IsNameAt message offset found
-        → found.steps ≤ 256 }
-    ensures start { (message : Octets) (offset : ℕ) (found : Found) → IsNameAt message offset found
-        → offset < found.end }
-    ensures end { (message : Octets) (offset : ℕ) (found : Found) → IsNameAt message offset found
-        → found.end ≤ length message }
+    ensures labels { OfEachName (λ message offset found. length found.labels ≤ 127) }
+    ensures pointers { OfEachName (λ message offset found. found.pointers ≤ 128) }
+    ensures steps { OfEachName (λ message offset found. found.steps ≤ 256) }
+    ensures start { OfEachName (λ message offset found. offset < found.end) }
+    ensures end { OfEachName (λ message offset found. found.end ≤ length message) }
 {}
 
 /// A walk has at most 256 places, all of them in the message: at most 127 labels and 128 pointers,
 /// and what is neither stands at the last place alone.
 #[tactic(auto, using(crate::proofs::Names::Walking::walk_lies))]
 pub fn a_walk_is_bounded()
-    ensures places { (message : Octets) (offset : ℕ) (visits : List Visit)
-        (ending : Option Fault)
-        → IsWalk message offset visits ending
-        → length visits ≤ 256 }
-    ensures labels { (message : Octets) (offset : ℕ) (visits : List Visit)
-        (ending : Option Fault)
-        → IsWalk message offset visits ending
-        → labels_in visits ≤ 127 }
-    ensures pointers { (message : Octets) (offset : ℕ) (visits : List Visit)
-        (ending : Option Fault)
-        → IsWalk message offset visits ending
-        → pointers_in visits ≤ 128 }
-    ensures last { (message : Octets) (offset : ℕ) (visits : List Visit)
-        (ending : Option Fault)
-        → IsWalk message offset visits ending
-        → LeadToLast visits }
-    ensures inside { (message : Octets) (offset : ℕ) (visits : List Visit)
-        (ending : Option Fault)
-        → IsWalk message offset visits ending
-        → AllByRecursion (λ visit. visit.offset < length message) visits }
+    ensures places { OfEachWalk (λ message visits. length visits ≤ 256) }
+    ensures labels { OfEachWalk (λ message visits. labels_in visits ≤ 127) }
+    ensures pointers { OfEachWalk (λ message visits. pointers_in visits ≤ 128) }
+    ensures last { OfEachWalk (λ message visits. LeadToLast visits) }
+    ensures inside { OfEachWalk (λ message.
+        AllByRecursion (λ visit. visit.offset < length message)) }
 {}
 
 /// The walk of a name ends at the root, after as many places as the name has steps.

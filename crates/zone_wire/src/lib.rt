@@ -8,7 +8,6 @@ mod data;
 pub mod examples;
 mod framer;
 mod header;
-mod known_name;
 mod labels;
 pub mod laws;
 mod lent;

@@ -1,6 +1,6 @@
-ghost use Rattle.std.specs.Prelude.{◌≡◌, ◌<◌, ◌≤◌, ℕ, [], length, IfOk, IfErr, IsOk, MatchResult, List, Option};
+ghost use Rattle.std.specs.Prelude.{◌≡◌, ◌<◌, ◌≤◌, ℕ, true, [], length, IfOk, IfErr, IsOk, MatchResult, List, Option};
 ghost use Rattle.zone_wire.specs.Name.{Found, IsNameAt, found_by};
-ghost use Rattle.zone_wire.specs.Machine.Finding.{Says, Tells, outcome};
+ghost use Rattle.zone_wire.specs.Machine.Finding.{Tells, named, outcome};
 ghost use Rattle.zone_wire.specs.Walk.{Visit, IsWalk, NameFault};
 ghost use Rattle.zone_wire.specs.Machine.Walk.{walk};
 
@@ -38,15 +38,8 @@ pub fn name_at(message: &[u8], offset: usize) -> Result<Decoded, (Fault, u16)>
         → IsWalk message.now offset visits ending → e.1 ≡ length visits) }
     ensures few { MatchResult result (λ d. d.steps ≤ 256) (λ e. e.1 ≤ 256) }
 {
-    walked(message, offset)
-}
-
-/// What the walk of the name at an offset finds.
-fn walked(message: &[u8], offset: usize) -> Result<Decoded, (Fault, u16)>
-    ensures { Says result (outcome message.now (walk message.now offset)) }
-{
     let mut labels = LabelRoom::new();
-    match read_name(message, offset, &mut labels) {
+    match read_name(message, offset, false, &mut labels) {
         Ok((end, steps)) => Ok(Decoded {
             name: labels.finish(),
             end,
@@ -58,7 +51,8 @@ fn walked(message: &[u8], offset: usize) -> Result<Decoded, (Fault, u16)>
 
 /// Puts the labels of the name at an offset into a room, in place of those there, and gives the
 /// offset after the name and the steps of the walk. Labels that stand one after another are put
-/// there at once, when the walk comes to what ends them.
+/// there at once, when the walk comes to what ends them. Where a name is known to stand, no fault is
+/// looked for.
 ///
 /// # Errors
 ///
@@ -68,8 +62,11 @@ fn walked(message: &[u8], offset: usize) -> Result<Decoded, (Fault, u16)>
 pub(crate) fn read_name(
     message: &[u8],
     offset: usize,
+    known: bool,
     labels: &mut LabelRoom,
 ) -> Result<(usize, u16), (Cause, u16)>
+    requires { known ≡ true → (found : Found)
+        × (outcome message.now (walk message.now offset) ≡ named found) }
     ensures { Tells result labels.new (outcome message.now (walk message.now offset)) }
 {
     labels.clear();
@@ -77,7 +74,7 @@ pub(crate) fn read_name(
     let mut end = None;
     let mut spot = Spot::outset(offset);
     'places: loop {
-        match step_at(message, spot, &mut ticks) {
+        match step_at(message, spot, known, &mut ticks) {
             Standing::Outside => return Err((Cause::ShortMessage, ticks.count())),
             Standing::Bad(cause) => return Err((cause, ticks.count())),
             Standing::Root => {

@@ -1,6 +1,6 @@
-ghost use Rattle.std.specs.Prelude.{◌≡◌, ◌+◌, ◌^◌, ◌<◌, ◌≤◌, length, slice_index, Some};
+ghost use Rattle.std.specs.Prelude.{◌≡◌, ◌+◌, ◌^◌, ◌<◌, ◌≤◌, true, length, slice_index, Some};
 ghost use Rattle.zone_wire.specs.Name.{target_at};
-ghost use Rattle.zone_wire.specs.Machine.Spot.{known_of, spot_of, standing_of, ticks_at};
+ghost use Rattle.zone_wire.specs.Machine.Spot.{IsSound, spot_of, standing_of, ticks_at};
 ghost use Rattle.zone_wire.specs.Machine.Walk.{outset, past_label, past_pointer};
 ghost use Rattle.zone_wire.specs.Machine.Walk.{standing_in, label_of, pointer_of};
 
@@ -41,25 +41,25 @@ pub(crate) enum Standing {
     Bad(Cause),
 }
 
-/// What stands at one spot of what is known to be a name.
-#[derive(Clone, Copy, Debug)]
-pub(crate) enum KnownStanding {
-    Root,
-    /// A label, and how many octets it has.
-    Label(usize),
-    /// A pointer, and where it leads.
-    Pointer(usize),
-}
-
-/// What stands at a spot, by its first octet.
+/// What stands at a spot, by its first octet. A spot that lies in the message counts as a step before
+/// it is looked at. Where a name is known to stand, no fault is looked for.
+#[inline(always)]
 #[tactic(auto, unfolding(crate::specs::Machine::Walk::standing_in))]
-pub(crate) fn look_at(message: &[u8], spot: Spot) -> Standing
-    requires { spot.octets < 256 }
-    ensures { standing_of result ≡ standing_in message.now (spot_of spot) }
+pub(crate) fn step_at(message: &[u8], spot: Spot, known: bool, ticks: &mut Ticks) -> Standing
+    requires octets { spot.octets < 256 }
+    requires ticks { ticks.old < 256 }
+    requires known { known ≡ true → IsSound (standing_in message.now (spot_of spot)) }
+    ensures place { standing_of result ≡ standing_in message.now (spot_of spot) }
+    ensures ticks { ticks.new ≡ ticks.old + ticks_at (standing_of result) }
 {
+    if known {
+        ticks.tick();
+        return known_at(message, spot);
+    }
     if spot.offset >= message.len() {
         return Standing::Outside;
     }
+    ticks.tick();
     let first = message[spot.offset];
     // The two high bits say the form: 00 is a label's length, 11 a pointer, and the others are
     // reserved (RFC 1035 4.1.4).
@@ -71,35 +71,16 @@ pub(crate) fn look_at(message: &[u8], spot: Spot) -> Standing
     }
 }
 
-/// `look_at`, which counts a step before it looks at a spot that lies in the message.
-#[tactic(auto, unfolding(crate::specs::Machine::Walk::standing_in))]
-pub(crate) fn step_at(message: &[u8], spot: Spot, ticks: &mut Ticks) -> Standing
-    requires octets { spot.octets < 256 }
-    requires ticks { ticks.old < 256 }
-    ensures place { standing_of result ≡ standing_in message.now (spot_of spot) }
-    ensures ticks { ticks.new ≡ ticks.old + ticks_at (standing_of result) }
-{
-    if spot.offset < message.len() {
-        ticks.tick();
-    }
-    look_at(message, spot)
-}
-
-/// `step_at` where no fault is known to stand.
-#[inline(always)]
+/// What stands at a spot of a name, where no fault is known to stand.
 #[tactic(auto, using(crate::proofs::Names::Walking::spot_known))]
-pub(crate) fn known_at(message: &[u8], spot: Spot, ticks: &mut Ticks) -> KnownStanding
-    requires known { (known : KnownStanding)
-        × (standing_in message.now (spot_of spot) ≡ Some (known_of known)) }
-    requires ticks { ticks.old < 256 }
-    ensures place { standing_in message.now (spot_of spot) ≡ Some (known_of result) }
-    ensures ticks { ticks.new ≡ ticks.old + 1 }
+fn known_at(message: &[u8], spot: Spot) -> Standing
+    requires { IsSound (standing_in message.now (spot_of spot)) }
+    ensures { standing_of result ≡ standing_in message.now (spot_of spot) }
 {
-    ticks.tick();
     match message[spot.offset] {
-        0 => KnownStanding::Root,
-        size @ 1..=63 => KnownStanding::Label(size as usize),
-        _ => KnownStanding::Pointer((u16_at(message, spot.offset) - POINTER_BITS) as usize),
+        0 => Standing::Root,
+        size @ 1..=63 => Standing::Label(size as usize),
+        _ => Standing::Pointer((u16_at(message, spot.offset) - POINTER_BITS) as usize),
     }
 }
 

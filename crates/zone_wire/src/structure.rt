@@ -1,14 +1,15 @@
 ghost use Rattle.std.specs.Prelude.{◌≡◌, ◌≤◌, length, MatchResult, Err, option_map};
 ghost use Rattle.zone_rdata.specs.Cause.{fault_for};
 ghost use Rattle.zone_wire.specs.Machine.Parsing.{IsParsed, name_end_of, part_end_of, run_end_of};
-ghost use Rattle.zone_wire.specs.Machine.Sections.{header_fault, question_at, record_at, questions_from, records_from, sections_of};
+ghost use Rattle.zone_wire.specs.Machine.Sections.{header_fault, record_at, questions_from, records_from, sections_of};
 ghost use Rattle.zone_wire.specs.Machine.Finding.{outcome};
 ghost use Rattle.zone_wire.specs.Machine.Spot.{end_or_fault, offset_or_fault};
 ghost use Rattle.zone_wire.specs.Machine.Walk.{walk};
 
 use crate::header::{ANCOUNT, ARCOUNT, HEADER_LEN, NSCOUNT, QDCOUNT, RECORD_HEAD_LEN};
 use crate::number::u16_at;
-use crate::spot::{Spot, Standing, look_at};
+use crate::spot::{Spot, Standing, step_at};
+use crate::ticks::Ticks;
 use zone_rdata::Cause;
 
 /// The offset at which the answers of a message begin.
@@ -62,10 +63,11 @@ fn header_cause(octets: &[u8]) -> Option<Cause>
 fn walk_to_root(message: &[u8], offset: usize) -> Result<usize, Cause>
     ensures { end_or_fault result ≡ name_end_of (outcome message.now (walk message.now offset)) }
 {
+    let mut ticks = Ticks::new();
     let mut end = None;
     let mut spot = Spot::outset(offset);
     'places: loop {
-        match look_at(message, spot) {
+        match step_at(message, spot, false, &mut ticks) {
             Standing::Outside => return Err(Cause::ShortMessage),
             Standing::Bad(cause) => return Err(cause),
             Standing::Root => return Ok(end.unwrap_or(spot.offset + 1)),
@@ -76,18 +78,6 @@ fn walk_to_root(message: &[u8], offset: usize) -> Result<usize, Cause>
             }
         }
     }
-}
-
-/// The offset after the question at an offset: its name, type and class (RFC 1035 4.1.2).
-#[tactic(auto, using(crate::proofs::Messages::Sections::name_ends_inside))]
-fn question_end(message: &[u8], offset: usize) -> Result<usize, Cause>
-    ensures { end_or_fault result ≡ part_end_of (λ q. q.end) (question_at message.now offset) }
-{
-    let end = walk_to_root(message, offset)?;
-    if message.len() - end < 4 {
-        return Err(Cause::ShortMessage);
-    }
-    Ok(end + 4)
 }
 
 /// The offset after the record at an offset: its name, type, class, TTL, and its data after its
@@ -108,11 +98,13 @@ fn record_end(message: &[u8], offset: usize) -> Result<usize, Cause>
     Ok(end)
 }
 
-/// The offset after so many questions, of which there is at most one.
+/// The offset after so many questions, of which there is at most one: its name, type and class (RFC
+/// 1035 4.1.2).
 ///
 /// # Errors
 ///
 /// The question's fault and the offset at which it begins.
+#[tactic(auto, using(crate::proofs::Messages::Sections::name_ends_inside))]
 fn questions_end(message: &[u8], count: u16, offset: usize) -> Result<usize, (Cause, usize)>
     requires { count ≤ 1 }
     ensures { offset_or_fault result ≡ run_end_of (questions_from message.now count offset) }
@@ -120,8 +112,9 @@ fn questions_end(message: &[u8], count: u16, offset: usize) -> Result<usize, (Ca
     if count == 0 {
         return Ok(offset);
     }
-    match question_end(message, offset) {
-        Ok(end) => Ok(end),
+    match walk_to_root(message, offset) {
+        Ok(end) if end + 4 <= message.len() => Ok(end + 4),
+        Ok(_) => Err((Cause::ShortMessage, offset)),
         Err(cause) => Err((cause, offset)),
     }
 }

@@ -1,13 +1,10 @@
 //! The messages of a zone transfer one after another, and what those before one fix (RFC 5936 2.2).
-ghost use Rattle.std.specs.Prelude.{◌≡◌, ◌+◌, ◌<◌, ◌≤◌, ◌^◌, [], ◌∷◌, ◌++◌, length, ◌↔◌, List, Some, None, IfErr, IsTrue, MatchOption, OnErr, OnOk, ⊤, option_map};
+ghost use Rattle.std.specs.Prelude.{◌≡◌, ◌+◌, ◌<◌, ◌≤◌, ◌^◌, [], length, ◌↔◌, List, None, IfErr, IsTrue, MatchOption, OnOk, ⊤, is_some, option_map, true};
 ghost use Rattle.zone_rdata.specs.Cause.{fault_for};
 ghost use Rattle.zone_rdata.specs.Fault.{IfFault};
-ghost use Rattle.zone_rdata.specs.Record.{Record};
-ghost use Rattle.zone_rdata.specs.declared.fault.Place.TheVariants.{Message as in_message};
 ghost use Rattle.zone_rdata.specs.declared.record.Placed.{Placed};
-ghost use Rattle.zone_wire.specs.AnswerFault.{AnswerFault};
 ghost use Rattle.zone_wire.specs.Machine.Answers.{agrees, order_fault, same_record};
-ghost use Rattle.zone_wire.specs.Machine.Transferring.{zone_held, zone_with, Among, IsAfter, Gains, Takes, TakesEach, TakesHead, HeadFault, TakesMessage, ReadsNext};
+ghost use Rattle.zone_wire.specs.Machine.Transferring.{zone_held, Among, IsAfter, IsTaken, IsRefused, TakesEach, TakesHead, HeadFault, TakesMessage, ReadsNext};
 ghost use Rattle.zone_wire.specs.Message.{QuestionAt, longest_message};
 ghost use Rattle.zone_wire.specs.Transfer.{StatedMessage};
 
@@ -19,7 +16,7 @@ use crate::record::counted_ttl;
 use std::alloc::{AllocError, Global};
 use std::mem::replace;
 use zone_name::Name;
-use zone_rdata::{Cause, NarrowFailing, PendingRecords, Place, Rdata, Reading, Rr, RrRef};
+use zone_rdata::{Cause, NarrowFailing, PendingRecords, Place, Rdata, Rr, RrRef};
 
 /// The number of the query type AXFR, of a whole zone (RFC 5936 2.1.2).
 const AXFR: u16 = 252;
@@ -62,15 +59,6 @@ impl Transfer {
             closed: false,
             decided: PendingRecords::new(alloc),
         }
-    }
-
-    /// What is left to hand on.
-    pub(crate) fn into_reading(self) -> Reading
-        ensures placed { result.placed.items ≡ self.decided.placed }
-        ensures ending { result.ending ≡ self.decided.ending }
-    {
-        let Transfer { decided, .. } = self;
-        decided.into_reading()
     }
 
     /// Takes the next message. Nothing is taken after a fault in it. The data gives its memory up to
@@ -191,13 +179,8 @@ impl Transfer {
         labels: &mut LabelRoom,
         rdata: &mut Rdata,
     ) -> Result<(), NarrowFailing>
-        ensures taken { OnOk result ((questions : List QuestionAt) (placed : List Placed)
-            → Among questions placed self.old
-            → Takes answer.now.octets answer.now.at questions placed self.old self.new) }
-        ensures fault { IfErr result
-            (IfFault (λ f. (questions : List QuestionAt) (placed : List Placed)
-            → Among questions placed self.old
-            → AnswerFault answer.now.octets questions placed answer.now.at f)) }
+        ensures taken { OnOk result (IsTaken answer.now self.old self.new) }
+        ensures fault { IfErr result (IfFault (IsRefused answer.now self.old)) }
         ensures unchanged { IfErr result (IfFault (λ _. self.new ≡ self.old)) }
         ensures count { self.new.messages ≡ self.old.messages }
         ensures ending { self.new.decided.ending ≡ self.old.decided.ending }
@@ -222,65 +205,37 @@ impl Transfer {
         Ok(())
     }
 
-    /// Takes the record that an answer states, where it may open or close the transfer.
+    /// Takes the record that an answer states, where it opens the transfer or is an SOA after that. The
+    /// opening SOA fixes the zone if no question does, and the same record again closes the transfer.
     #[cold]
     #[inline(never)]
     #[tactic(auto, using(crate::proofs::Records::Answering::order_verdicts))]
     fn take_soa(&mut self, answer: &RawRrRef<'_, '_>) -> Result<(), NarrowFailing>
-        ensures taken { OnOk result ((questions : List QuestionAt) (placed : List Placed)
-            → Among questions placed self.old
-            → Takes answer.now.octets answer.now.at questions placed self.old self.new) }
-        ensures fault { IfErr result
-            (IfFault (λ f. (questions : List QuestionAt) (placed : List Placed)
-            → Among questions placed self.old
-            → AnswerFault answer.now.octets questions placed answer.now.at f)) }
+        requires soa { is_some self.old.opening ≡ true → answer.now.at.kind ≡ 6 }
+        ensures taken { OnOk result (IsTaken answer.now self.old self.new) }
+        ensures fault { IfErr result (IfFault (IsRefused answer.now self.old)) }
         ensures unchanged { IfErr result (IfFault (λ _. self.new ≡ self.old)) }
         ensures count { self.new.messages ≡ self.old.messages }
         ensures ending { self.new.decided.ending ≡ self.old.decided.ending }
     {
         let rr = answer.read(self.alloc)?;
-        match self.order_cause(&rr) {
-            Some(cause) => Err(NarrowFailing::of(cause)),
-            None => Ok(self.take_record(rr, answer.offset())?),
+        if let Some(cause) = self.order_cause(&rr) {
+            return Err(NarrowFailing::of(cause));
         }
-    }
-
-    /// Takes the record of an answer that begins at an offset after those before it.
-    fn take_record(&mut self, rr: Rr, offset: usize) -> Result<(), AllocError>
-        ensures gains { OnOk result ((questions : List QuestionAt) (placed : List Placed)
-            → Among questions placed self.old
-            → Gains (record { rr = rr; place = in_message self.old.messages offset } ∷ [])
-            questions placed self.old self.new) }
-        ensures count { self.new.messages ≡ self.old.messages }
-        ensures ending { self.new.decided.ending ≡ self.old.decided.ending }
-    {
-        let is_opening = self.opening.is_none();
-        if !is_opening && rr.kind().is_soa() {
+        if self.opening.is_some() {
             self.closed = true;
             return Ok(());
         }
-        let place = Place::Message(self.messages, offset);
+        let place = Place::Message(self.messages, answer.offset());
         self.decided.placed.push(&rr.lend(), place)?;
-        if is_opening {
-            self.open(rr);
-        }
-        Ok(())
-    }
-
-    /// Takes the opening SOA, which fixes the zone if no question does.
-    fn open(&mut self, opening: Rr)
-        ensures opening { self.new.opening ≡ Some opening }
-        ensures zone { zone_held self.new.zone ≡ zone_with (zone_held self.old.zone) opening }
-        ensures others { self.new
-            ≡ record self.old { zone = self.new.zone; opening = self.new.opening } }
-    {
         if self.zone.is_none() {
             self.zone = Some(FixedZone {
-                name: opening.owner().copy(),
-                class: opening.class().number(),
+                name: rr.owner().copy(),
+                class: rr.class().number(),
             });
         }
-        self.opening = Some(opening);
+        self.opening = Some(rr);
+        Ok(())
     }
 
     /// The fault of a record after those before it.

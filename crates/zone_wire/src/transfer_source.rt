@@ -3,7 +3,8 @@ ghost use Rattle.std.specs.Prelude.{◌≡◌, ◌+◌, ◌<◌, ◌≤◌, ◌^
 ghost use Rattle.zone_wire.specs.Message.{longest_message};
 ghost use Rattle.zone_wire.specs.Stream.{StreamReads};
 
-use crate::framer::{Framer, cut_len};
+use crate::framer::Framer;
+use crate::transfer::Transfer;
 use std::alloc::{AllocError, Global};
 use std::marker::Model;
 use zone_rdata::{FedStatus, LendingSource, Placed, PlacedRef, Reading, RrSource, Stop};
@@ -96,7 +97,7 @@ impl TransferSource {
                 Ok(())
             }
             Err(_) => {
-                self.framer.drop_unfinished();
+                self.framer.unfinished.clear();
                 self.status = FedStatus::OutOfMemory;
                 Err(Stop::Memory)
             }
@@ -138,7 +139,8 @@ impl TransferSource {
         ensures keeps { KeepsOctets self.now result }
         ensures few { result ≤ longest_message + 1 }
     {
-        cut_len(self.framer.unfinished.as_slice())
+        let unfinished = self.framer.unfinished.as_slice();
+        unfinished.len()
     }
 
     /// The number of octets of all pieces for which `feed` answered `Ok`.
@@ -146,16 +148,6 @@ impl TransferSource {
         ensures { result ≡ self.now.held.fed }
     {
         self.fed
-    }
-
-    /// What the source has left to give.
-    fn into_reading(self) -> Reading
-        ensures placed { result.placed.items ≡ self.pending.records }
-        ensures ending { result.ending ≡ self.pending.ending }
-    {
-        let TransferSource { framer, .. } = self;
-        let Framer { transfer, .. } = framer;
-        transfer.into_reading()
     }
 }
 
@@ -209,5 +201,8 @@ pub fn read_transfer(alloc: Global, stream: &[u8]) -> Result<Reading, AllocError
     let Ok(()) = source.finish() else {
         return Err(AllocError);
     };
-    Ok(source.into_reading())
+    let TransferSource { framer, .. } = source;
+    let Framer { transfer, .. } = framer;
+    let Transfer { decided, .. } = transfer;
+    Ok(decided.into_reading())
 }

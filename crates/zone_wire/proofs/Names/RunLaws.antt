@@ -1,10 +1,12 @@
 -- Runs of labels, the walk that gathers them, and labels that are copied into a room.
-use Rattle.zone_wire.proofs.Common.{common_steps, AllByRecursion-append, Bytes, IsCasedLabel, IsLabelAt, IsName, IsRun, List, Option, Some, Spot, [], ap, append-nil, append_assoc, ap₂, arith, at_pointer, bytes_each, drop, folded, folded_label, frames_push, label_at, labels_of, labels_of-open_cased, length, length-append, length-drop, length-take-le, map-append, octets_between, refl, standing_in, sym, take, unwrap_or, with_length, ℕ, ◌++◌, ◌+◌, ◌<◌, ◌∙◌, ◌∷◌, ◌≡◌, ◌≤◌, AllByRecursion, HoldsLabels, HoldsLabels-frames, HoldsLabels-nil, IsLabel, drop-drop, drop_at, drop_more, flat_map, flat_map-append, folded_frames, folded_labels, folded_octet, get_or, labels_of-none, labels_of-open, length-map, length-put_chunk, length-set, map, subst, take-add, take-map, take-take, take_at, take_more_put_chunk, take_more_set, ◌-◌, None, outset, past_label, past_pointer, IsRoom, at_label}
+use Rattle.zone_wire.proofs.Common.{common_steps, AllByRecursion-append, Bytes, IsCasedLabel, IsLabelAt, IsName, IsRun, List, Option, Some, Spot, [], ap, append-nil, append_assoc, ap₂, arith, at_pointer, bytes_each, drop, folded, folded_label, frames_push, label_at, labels_of, labels_of-open_cased, length, length-append, length-drop, length-take-le, map-append, octets_between, refl, standing_in, sym, take, unwrap_or, with_length, ℕ, ◌++◌, ◌+◌, ◌<◌, ◌∙◌, ◌∷◌, ◌≡◌, ◌≤◌, AllByRecursion, HoldsLabels, HoldsLabels-frames, HoldsLabels-nil, IsLabel, drop-drop, drop_at, flat_map, flat_map-append, folded_frames, folded_labels, folded_octet, labels_of-none, labels_of-open, length-map, length-put_chunk, map, subst, take-add, take-map, take-take, take_at, take_more_put_chunk, ◌-◌, None, outset, past_label, past_pointer, IsRoom, at_label}
 use Rattle.zone_wire.proofs.Fields.FieldReading.{between_first, between_join, part_len}
 use Rattle.zone_wire.proofs.Names.Walking.{Carries, carries_label, carries_pointer, carries_start, drop_each, label_octets, label_shows, pointer_shows, spots_show, take_each, wire-octets}
 use Rattle.std.specs.Char.{to_ascii_lowercase}
+use Rattle.zone_name.proofs.InOctets.Pushing.{folded_again, refilled}
+use Rattle.std.proofs.lemmas.Slice.{take-put_mid, take-put_mid_below}
+use borrow.Rule.Slice.PartMut.{post_of, put_mid}
 use lib.Lanes.{chunk, put_chunk}
-use lib.ListN.{set}
 
 -- a room of no label
 pub no_labels : labels_of [] ≡ []
@@ -175,12 +177,6 @@ copied_lanes message start old now next at done c room part is =
     (ap length is ∙ length-put_chunk (at + done) now lanes)
     (ap (take (at + (done + 16))) is ∙ take_more_put_chunk (at + done) now lanes (at + (done + 16)) (omega (arith, long)) (omega (arith, room)))
 
-pub copied_octet : (message : List ℕ) (start : ℕ) (old now : List ℕ) (at done : ℕ) → Copied message start old now at done
-    → at + done < length now → start + done < length message
-    → Copied message start old (set now (at + done) (to_ascii_lowercase (get_or message (start + done) 0))) at (done + 1)
-copied_octet message start old now at done c room part =
-    grind (arith, common_steps, to_ascii_lowercase, drop_more, copied_on, length-set, take_more_set)
-
 pub copied_all : (message : List ℕ) (start : ℕ) (old now : List ℕ) (at done size : ℕ) → Copied message start old now at done → size ≤ done → at ≤ length old
     → take (at + size) now ≡ take at old ++ map folded_octet (take size (drop start message))
 copied_all message start old now at done size c le room =
@@ -193,9 +189,21 @@ copied_all message start old now at done size c le room =
     ∙ ap₂ (λ (s t : List ℕ). s ++ take size t) (take_at front back at long) (drop_at front back at long)
     ∙ ap (λ t. front ++ t) (take-map folded_octet size (take done from) ∙ ap (map folded_octet) (take-take size done from le))
 
-pub ruleset lanes_are_copied = (copied_all, copied_lanes, copied_start)
+-- octets of a message that are written to a part of a room, and put in lower case there
+pub copied_part : (message room : List ℕ) (start size at k : ℕ) (copied lower : List ℕ) → k ≡ size → start + size ≤ length message → at + size ≤ length room → copied ≡ take size (drop start message)
+    → lower ≡ map to_ascii_lowercase (take k (drop at (put_mid at k room copied)))
+    → take (at + size) (put_mid at k (put_mid at k room copied) lower) ≡ take at room ++ map folded_octet (take size (drop start message))
+copied_part message room start size at k copied lower whole part fits is e =
+    let long : length copied ≡ size = ap length is ∙ length-take-le size (drop start message) (omega (arith, length-drop start message)) in
+    let front : length (take at room) ≡ at = length-take-le at room (omega arith) in
+    let there : take k (drop at (put_mid at k room copied)) ≡ copied = ap (take k) (drop_at (take at room) (copied ++ post_of at k room) at front) ∙ take_at copied (post_of at k room) k (omega (arith, long)) in
+    let lowered : lower ≡ map to_ascii_lowercase copied = e ∙ ap (map to_ascii_lowercase) there in
+    let low : lower ≡ map folded_octet copied = sym (refilled copied lower (ap length lowered ∙ length-map copied to_ascii_lowercase)) ∙ folded_again copied lower lowered in
+    let size_of : length lower ≡ size = ap length low ∙ length-map copied folded_octet ∙ long in
+    take-put_mid at k (put_mid at k room copied) lower (at + size) (omega (arith, size_of)) (omega (arith, front, length-append (take at room) (copied ++ post_of at k room)))
+    ∙ ap₂ (λ (s t : List ℕ). s ++ t) (take-put_mid_below at k room copied at (omega arith) (omega arith)) (low ∙ ap (map folded_octet) is)
 
-pub ruleset octets_are_copied = (copied_all, copied_octet, copied_start)
+pub ruleset lanes_are_copied = (copied_all, copied_lanes, copied_start)
 
 pub ruleset name_is_walked = (gathers_start, spots_show)
 

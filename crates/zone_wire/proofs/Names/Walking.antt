@@ -1,7 +1,6 @@
 -- The walk: the one list of places that is a walk, how it ends, the names that it finds, and how it is carried on from place to place.
-use Rattle.zone_wire.proofs.Common.{AllByRecursion, At, EitherIs, Fault, Found, IsLabel, IsLabel-folded, IsLabelAt, IsNameAt, IsPointerAt, IsVerdict, IsWalk, KnownStanding, LeadToLast, List, MatchOption, NameFault, None, Option, Outcome, ShortMessage, Some, Spot, Standing, Visit, Walks, [], after_label, after_pointer, ap, append-nil, arith, at_fault, at_label, at_pointer, at_root, by_pointer, bytes_each, common_steps, drop, ending, flat_map, get_or, get_or-drop, inl, inr, known_of, label, label_at, labels_in, length, length-append, length-drop, length-take-le, lit≤, named, outcome, outset, outside, over_label, past_label, past_pointer, pointer, pointers_in, refl, refused, root, slice_index, standing_in, subst, suc, sym, take, target_at, to_fault, to_root, unwrap_or, visit, walk, walk_by, walk_on, wire, with_length, zero, ℕ, ◌*◌, ◌++◌, ◌+◌, ◌<◌, ◌∙◌, ◌∷◌, ◌≡◌, ◌≤◌}
+use Rattle.zone_wire.proofs.Common.{AllByRecursion, At, EitherIs, Fault, Found, IsLabel, IsLabel-folded, IsLabelAt, IsNameAt, IsPointerAt, IsSound, IsVerdict, IsWalk, LeadToLast, List, MatchOption, NameFault, None, Option, Outcome, ShortMessage, Some, Spot, Standing, Visit, Walks, [], after_label, after_pointer, ap, append-nil, arith, at_fault, at_label, at_pointer, at_root, by_pointer, bytes_each, common_steps, drop, ending, flat_map, get_or, get_or-drop, inl, inr, label, label_at, labels_in, length, length-append, length-drop, length-take-le, lit≤, named, outcome, outset, outside, over_label, past_label, past_pointer, pointer, pointers_in, refl, refused, root, slice_index, standing_in, subst, suc, sym, take, target_at, to_fault, to_root, unwrap_or, visit, walk, walk_by, walk_on, wire, with_length, zero, ℕ, ◌*◌, ◌++◌, ◌+◌, ◌<◌, ◌∙◌, ◌∷◌, ◌≡◌, ◌≤◌}
 use Rattle.zone_wire.proofs.Names.Spots.{Shows, standing_is, standing_shows}
-use Rattle.zone_wire.specs.declared.spot.KnownStanding.TheVariants.{Label, Pointer, Root}
 
 -- ---- the walk is the one list of places that is a walk
 walk_step : (n : ℕ) (message : List ℕ) (spot : Spot) (standing : Option Standing) → Shows message spot standing → walk_on (walk_by n message) spot standing ≡ walk_by (suc n) message spot
@@ -356,14 +355,14 @@ module _ {message : List ℕ} {offset : ℕ} {spot : Spot} {labels : List (List 
   carries_outside c e = leads c [] (Some ShortMessage) (outside (subst (Shows message spot) e (standing_shows message spot))) ∙ ap (refused ShortMessage) (omega arith)
 
   -- where a name is found, no fault stands here
-  pub carries_named : (found : Found) → Carries message offset spot labels end steps → outcome message (walk message offset) ≡ named found → (known : KnownStanding) × (standing_in message spot ≡ Some (known_of known))
+  pub carries_named : (found : Found) → Carries message offset spot labels end steps → outcome message (walk message offset) ≡ named found → IsSound (standing_in message spot)
   carries_named found c e = by (standing_in message spot) refl
     where
-      by : (standing : Option Standing) → standing_in message spot ≡ standing → (known : KnownStanding) × (standing_in message spot ≡ Some (known_of known))
+      by : (standing : Option Standing) → standing_in message spot ≡ standing → IsSound standing
       by None is = absurd (let f = carries_outside c is in cc)
-      by (Some at_root) is = (Root, is)
-      by (Some (at_label size)) is = (Label size, is)
-      by (Some (at_pointer target)) is = (Pointer target, is)
+      by (Some at_root) is = tt
+      by (Some (at_label size)) is = tt
+      by (Some (at_pointer target)) is = tt
       by (Some (at_fault fault)) is = absurd (let f = carries_bad fault c is in cc)
 
 -- what is known to stand at a place, by its first octet
@@ -373,10 +372,15 @@ pub record Knows (message : List ℕ) (spot : Spot) : Type 0 where
   pub is_label : 0 < slice_index message spot.offset → slice_index message spot.offset ≤ 63 → standing_in message spot ≡ Some (at_label (slice_index message spot.offset))
   pub is_pointer : 63 < slice_index message spot.offset → (spot.offset + 2 ≤ length message) × (192 ≤ slice_index message spot.offset) × (standing_in message spot ≡ Some (at_pointer (target_at message spot.offset)))
 
-pub spot_known : (message : List ℕ) (spot : Spot) (known : KnownStanding) → standing_in message spot ≡ Some (known_of known) → Knows message spot
-spot_known message spot Root e = let shows = subst (Shows message spot) e (standing_shows message spot) in grind arith
-spot_known message spot (Label size) e = let shows = label_shows message spot size e in grind arith
-spot_known message spot (Pointer target) e = let shows = pointer_shows message spot target e in grind arith
+pub spot_known : (message : List ℕ) (spot : Spot) → IsSound (standing_in message spot) → Knows message spot
+spot_known message spot sound = by (standing_in message spot) refl sound
+  where
+    by : (standing : Option Standing) → standing_in message spot ≡ standing → IsSound standing → Knows message spot
+    by None e sound = absurd sound
+    by (Some (at_fault fault)) e sound = absurd sound
+    by (Some at_root) e sound = let shows = subst (Shows message spot) e (standing_shows message spot) in grind arith
+    by (Some (at_label size)) e sound = let shows = label_shows message spot size e in grind arith
+    by (Some (at_pointer target)) e sound = let shows = pointer_shows message spot target e in grind arith
 
 pub ruleset spots_show = (root_inside, label_shows, pointer_shows)
 

@@ -1,5 +1,5 @@
 -- Answers and messages that are read one after another.
-use Rattle.zone_wire.proofs.Common.{AfterClosing, AgreeWith, Among, AnswerFault, AnswersGive, AskAfter, Bool, ComesAfter, Err, Failing, Fault, Gains, Hands, HasFirstId, HeadFault, IfFault, IfNoMemory, IsAfter, IsMessage, List, MatchOption, Message, MessageFault, None, Ok, Option, OrderFault, Placed, Question, QuestionAt, RawRecord, ReadsNext, Record, RecordAt, Result, Sections, Some, StatedMessage, StopsIn, Takes, TakesEach, TakesHead, TakesMessage, TakesMessageUpTo, TakesUpTo, TakesWhole, Transfer, [], ap, append-nil, append_assoc, asked, asked_in, fails, false, first_id, handed_on, holds, inl, is_some, length, length-append, map, nat_eq, no_more, placed_in, pointwise, raw_at, refl, reverse, reverse-reverse, same_name, same_record, states, subst, sym, true, zone_held, zone_with, ℕ, ⊤, ◌++◌, ◌+◌, ◌↔◌, ◌∙◌, ◌∷◌, ◌≡◌, common_steps, arith, rules, on_ok_weaker}
+use Rattle.zone_wire.proofs.Common.{AfterClosing, AgreeWith, Among, AnswerFault, AnswersGive, AskAfter, Bool, ComesAfter, Err, Failing, Fault, Gains, Hands, HasFirstId, HeadFault, IfFault, IfNoMemory, IsAfter, IsMessage, IsRefused, IsTaken, List, MatchOption, Message, MessageFault, None, Ok, Option, OrderFault, Placed, Question, QuestionAt, RawRecord, ReadsNext, Record, RecordAt, Result, Sections, Some, StatedMessage, StopsIn, Takes, TakesEach, TakesHead, TakesMessage, TakesMessageUpTo, TakesUpTo, TakesWhole, Transfer, [], ap, append-nil, append_assoc, asked, asked_in, fails, false, first_id, handed_on, holds, inl, is_some, length, length-append, map, nat_eq, no_more, placed_in, pointwise, raw_at, refl, reverse, reverse-reverse, same_name, same_record, states, subst, sym, true, zone_held, zone_with, ℕ, ⊤, ◌++◌, ◌+◌, ◌↔◌, ◌∙◌, ◌∷◌, ◌≡◌, common_steps, arith, rules, on_ok_weaker}
 use Rattle.zone_rdata.specs.declared.fault.Failing.TheVariants as failings
 use Rattle.zone_rdata.specs.declared.queue.PendingRecords.{PendingRecords}
 use Rattle.zone_wire.specs.AnswerFault.{refused}
@@ -55,7 +55,7 @@ pending_all octets answers left t e = search rules
 so_far_more : (octets : List ℕ) (answers : List RecordAt) (a : RecordAt) (rest : List RecordAt) (questions : List QuestionAt) (placed : List Placed) (old mid new : Transfer) → mid.messages ≡ old.messages → (s : SoFar octets answers (a ∷ rest) questions placed old mid) → Takes octets a questions (placed ++ s.here) mid new → SoFar octets answers rest questions placed old new
 so_far_more octets answers a rest questions placed old mid new messages s takes = grind (arith, append_assoc, states, common_steps)
 
-pub pending_more : (octets : List ℕ) (answers : List RecordAt) (first : RawRecord) (left before : List RawRecord) (old mid new : Transfer) → Pending octets answers before old mid → before ≡ first ∷ left → new.messages ≡ mid.messages → new.decided.ending ≡ mid.decided.ending → ((questions : List QuestionAt) (placed : List Placed) → Among questions placed mid → Takes first.octets first.at questions placed mid new) → Pending octets answers left old new
+pub pending_more : (octets : List ℕ) (answers : List RecordAt) (first : RawRecord) (left before : List RawRecord) (old mid new : Transfer) → Pending octets answers before old mid → before ≡ first ∷ left → new.messages ≡ mid.messages → new.decided.ending ≡ mid.decided.ending → IsTaken first mid new → Pending octets answers left old new
 pending_more octets answers first left before old mid new p e messages ending takes = by p.rest (sym e ∙ p.left_is) p.so_far
   where
     by : (rest : List RecordAt) → first ∷ left ≡ map (raw_at octets) rest → Reached octets answers rest old mid → Pending octets answers left old new
@@ -138,7 +138,7 @@ stopped_next octets before old mid decided failing number offset after count tak
 
 -- the next answer is refused, or memory is wanting
 pub stopped_by : (octets : List ℕ) (answers : List RecordAt) (first : RawRecord) (left before : List RawRecord) (old mid new : Transfer) (failing : Failing) (offset : ℕ) → Pending octets answers before old mid → before ≡ first ∷ left → offset ≡ first.at.offset
-    → IfFault (λ f. (questions : List QuestionAt) (placed : List Placed) → Among questions placed mid → AnswerFault first.octets questions placed first.at f) failing → IfFault (λ _. new ≡ mid) failing
+    → IfFault (IsRefused first mid) failing → IfFault (λ _. new ≡ mid) failing
     → (questions : List QuestionAt) (placed : List Placed) → Among questions placed old → IfNoMemory (TakesUpTo octets answers questions placed old new) (Err (failing, offset))
 stopped_by octets answers first left before old mid new (failings.Fault fault) offset p e there refuses same questions placed among = rw same (by p.rest (sym e ∙ p.left_is) p.so_far)
   where

@@ -1,13 +1,12 @@
 -- What the walk along a name finds.
 use Rattle.std.specs.Prelude.{◌≡◌, ℕ, suc, ◌+◌, List, [], ◌∷◌, Result, Ok, Err}
 use Rattle.zone_name.specs.Common.{Labels}
-use Rattle.zone_wire.specs.Name.{Found, label_at, found_by}
+use Rattle.zone_wire.specs.Name.{Found, label_at}
 use Rattle.zone_wire.specs.Walk.{at_root, at_label, at_pointer, at_fault, Visit}
 use Rattle.zone_rdata.specs.Cause.{fault_for}
 use Rattle.zone_rdata.specs.declared.cause.Cause.{Cause}
 use Rattle.zone_rdata.specs.declared.fault.Fault.{Fault}
 use Rattle.zone_rdata.specs.declared.fault.Fault.TheVariants.{ShortMessage}
-use Rattle.zone_wire.specs.declared.name.Decoded.{Decoded}
 
 -- a name, or a fault with the number of steps
 pub data Outcome : Type 0 where
@@ -33,11 +32,6 @@ outcome message (first ∷ visits) =
       | at_pointer target ↦ after_pointer (first.offset + 2) (outcome message visits)
       | at_fault fault ↦ refused fault 1
     ]
-
--- a result says what a walk finds
-abbrev pub Says : Result Decoded (Fault × ℕ) → Outcome → Type 0
-Says (Ok d) o = (pointers : ℕ) × (o ≡ named (found_by d pointers))
-Says (Err e) o = o ≡ refused e.0 e.1
 
 -- the end and the steps of a walk, and the labels that were kept, are what it finds
 abbrev pub Tells : Result (ℕ × ℕ) (Cause × ℕ) → Labels → Outcome → Type 0

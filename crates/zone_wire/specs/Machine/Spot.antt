@@ -1,13 +1,11 @@
 -- What the program holds of a spot of a walk.
-use Rattle.std.specs.Prelude.{ℕ, Option, Some, None, Result, Ok, Err}
+use Rattle.std.specs.Prelude.{ℕ, Option, Some, None, Result, Ok, Err, ⊤}
 use Rattle.zone_rdata.specs.Cause.{fault_for}
 use Rattle.zone_rdata.specs.declared.cause.Cause.{Cause}
 use Rattle.zone_rdata.specs.declared.fault.Fault.{Fault}
 use Rattle.zone_wire.specs.Machine.Walk.{Spot}
 use Rattle.zone_wire.specs.Walk.{Standing, at_root, at_label, at_pointer, at_fault}
 use Rattle.zone_wire.specs.declared.spot.Spot as held
-use Rattle.zone_wire.specs.declared.spot.KnownStanding as known
-use Rattle.zone_wire.specs.declared.spot.KnownStanding.TheVariants as known_to_be
 use Rattle.zone_wire.specs.declared.spot.Standing as found
 use Rattle.zone_wire.specs.declared.spot.Standing.TheVariants.{Outside, Root, Label, Pointer, Bad}
 
@@ -39,11 +37,11 @@ standing_of (Label size) = Some (at_label size)
 standing_of (Pointer target) = Some (at_pointer target)
 standing_of (Bad cause) = Some (at_fault (fault_for cause))
 
--- what is known to stand at a spot
-abbrev pub known_of : known.KnownStanding → Standing
-known_of known_to_be.Root = at_root
-known_of (known_to_be.Label size) = at_label size
-known_of (known_to_be.Pointer target) = at_pointer target
+-- a spot lies in the message, and no fault stands there
+abbrev pub IsSound : Option Standing → Type 0
+IsSound None = ⊥
+IsSound (Some (at_fault fault)) = ⊥
+IsSound (Some standing) = ⊤
 
 -- a look at a spot that lies in the message counts as one step
 abbrev pub ticks_at : Option Standing → ℕ

@@ -7,12 +7,13 @@ use Rattle.zone_rdata.specs.declared.fault.Fault.{Fault}
 use Rattle.zone_rdata.specs.declared.fault.Fault.TheVariants.{IdMismatch, BadQuestion}
 use Rattle.zone_rdata.specs.declared.fault.Place.TheVariants.{Message}
 use Rattle.zone_rdata.specs.declared.record.Placed.{Placed}
-use Rattle.zone_wire.specs.AnswerFault.{AnswersGive}
+use Rattle.zone_wire.specs.AnswerFault.{AnswerFault, AnswersGive}
 use Rattle.zone_wire.specs.Answers.{ZoneAsked, zone_of, handed_on, is_closed, ComesAfter}
 use Rattle.zone_wire.specs.Message.{QuestionAt, RecordAt, Sections}
 use Rattle.zone_wire.specs.Stream.{asked_in, placed_in, HasFirstId, AskAfter, IsReadAfter, FaultAfter}
 use Rattle.zone_wire.specs.Transfer.{AnswerStates, StatedMessage}
 use Rattle.zone_wire.specs.TransferSource.{first_id, opening_of}
+use Rattle.zone_wire.specs.View.{RawRecord}
 use Rattle.zone_wire.specs.declared.transfer.FixedZone.{FixedZone}
 use Rattle.zone_wire.specs.declared.transfer.Transfer.{Transfer}
 
@@ -58,6 +59,18 @@ pub record Takes (octets : List ℕ) (a : RecordAt) (questions : List QuestionAt
   pub stands : ComesAfter questions placed rr
   pub gains : Gains
       (record { rr = rr; place = Message old.messages a.offset } ∷ []) questions placed old new
+
+-- the record of an answer comes after whatever was taken before
+abbrev pub IsTaken : RawRecord → Transfer → Transfer → Type 0
+IsTaken answer old new =
+    (questions : List QuestionAt) (placed : List Placed) → Among questions placed old
+    → Takes answer.octets answer.at questions placed old new
+
+-- an answer has a fault after whatever was taken before
+abbrev pub IsRefused : RawRecord → Transfer → Fault → Type 0
+IsRefused answer old fault =
+    (questions : List QuestionAt) (placed : List Placed) → Among questions placed old
+    → AnswerFault answer.octets questions placed answer.at fault
 
 -- the fault that was found, if memory was not wanting
 abbrev pub IfNoMemory : (Option (Fault × ℕ) → Type 0) → Result (Unit {0}) (Failing × ℕ) → Type 0

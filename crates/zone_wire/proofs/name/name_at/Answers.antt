@@ -1,26 +1,22 @@
-use Rattle.zone_wire.proofs.Common.{Err, Fault, IfOk, IsNameAt, List, MatchResult, Ok, Result, Says, arith, found_by, get_or, length, outcome, walk, ℕ, ◌<◌, ◌≤◌}
+use Rattle.zone_wire.proofs.Common.{arith}
 use Rattle.zone_wire.proofs.Names.Walking.{name_bounds, refused_few, walk_names}
-use Rattle.zone_wire.specs.declared.name.Decoded.{Decoded}
 use Rattle.zone_wire.proofs.name.name_at.Goals as goal
 
-module _ (message : List ℕ) (offset : ℕ) (each : (k : ℕ) → get_or message k 0 < 256) where
-  says_found : (r : Result Decoded (Fault × ℕ)) → Says r (outcome message (walk message offset)) → IfOk r (λ d. (pointers : ℕ) × IsNameAt message offset (found_by d pointers))
-  says_found (Ok d) says = (says.0, walk_names message offset (found_by d says.0) each says.1)
-  says_found (Err e) says = tt
+pub returns-in-Ok-clause-found : goal.returns-in-Ok-clause-found
+returns-in-Ok-clause-found c =
+    let is = walk_names c.args.message.now c.args.offset _ (λ i. omega (arith, c.type_inv.message i)) c.in-Ok.ensures.1 in
+    rw c.finish.ensures (c.in-Ok.ensures.0, is)
 
-  says_within : (r : Result Decoded (Fault × ℕ)) → Says r (outcome message (walk message offset)) → IfOk r (λ d. (offset < d.end) × (d.end ≤ length message))
-  says_within (Ok d) says = let b = name_bounds message offset _ (walk_names message offset (found_by d says.0) each says.1) in (b.start, b.end)
-  says_within (Err e) says = tt
+pub returns-in-Ok-clause-within : goal.returns-in-Ok-clause-within
+returns-in-Ok-clause-within c =
+    let is = walk_names c.args.message.now c.args.offset _ (λ i. omega (arith, c.type_inv.message i)) c.in-Ok.ensures.1 in
+    let bounds = name_bounds c.args.message.now c.args.offset _ is in
+    (bounds.start, bounds.end)
 
-  says_few : (r : Result Decoded (Fault × ℕ)) → Says r (outcome message (walk message offset)) → MatchResult r (λ d. d.steps ≤ 256) (λ e. e.1 ≤ 256)
-  says_few (Ok d) says = (name_bounds message offset _ (walk_names message offset (found_by d says.0) each says.1)).steps
-  says_few (Err e) says = refused_few message offset e.0 e.1 says
+pub returns-in-Ok-clause-few : goal.returns-in-Ok-clause-few
+returns-in-Ok-clause-few c =
+    let is = walk_names c.args.message.now c.args.offset _ (λ i. omega (arith, c.type_inv.message i)) c.in-Ok.ensures.1 in
+    (name_bounds c.args.message.now c.args.offset _ is).steps
 
-pub returns-clause-found : goal.returns-clause-found
-returns-clause-found c = says_found c.args.message.now c.args.offset (λ i. omega (arith, c.type_inv.message i)) c.walked.result c.walked.ensures
-
-pub returns-clause-within : goal.returns-clause-within
-returns-clause-within c = says_within c.args.message.now c.args.offset (λ i. omega (arith, c.type_inv.message i)) c.walked.result c.walked.ensures
-
-pub returns-clause-few : goal.returns-clause-few
-returns-clause-few c = says_few c.args.message.now c.args.offset (λ i. omega (arith, c.type_inv.message i)) c.walked.result c.walked.ensures
+pub returns-in-Err-clause-few : goal.returns-in-Err-clause-few
+returns-in-Err-clause-few c = refused_few c.args.message.now c.args.offset _ _ c.in-Err.ensures

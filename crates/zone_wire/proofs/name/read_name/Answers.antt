@@ -1,7 +1,10 @@
 use Rattle.zone_wire.proofs.Common.{ShortMessage, ap, arith, fault_for, refused, sym, ◌∙◌}
 use Rattle.zone_wire.proofs.Names.RunLaws.{gathers_label, gathers_pointer, run_fits}
-use Rattle.zone_wire.proofs.Names.Walking.{carries_outside, carries_bad, carries_root, pointer_shows, root_inside}
+use Rattle.zone_wire.proofs.Names.Walking.{carries_outside, carries_bad, carries_named, carries_root, pointer_shows, root_inside}
 use Rattle.zone_wire.proofs.name.read_name.Goals as goal
+
+pub step_at-requires-clause-known : goal.step_at-requires-clause-known
+step_at-requires-clause-known c = λ known. let here = c.requires known in carries_named here.0 c.places.invariant.carries here.1
 
 pub returns-in-Outside : goal.returns-in-Outside
 returns-in-Outside c = carries_outside c.places.invariant.carries (sym c.in-Outside.ensures.place) ∙ ap (refused ShortMessage) (omega (arith, c.count.ensures, c.in-Outside.ensures.ticks))

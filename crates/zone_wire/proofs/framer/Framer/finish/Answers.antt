@@ -6,7 +6,7 @@ use Rattle.zone_wire.proofs.framer.Framer.finish.Goals.{then-is_none, else-is_no
 
 pub returns-clause-reads : goal.returns-clause-reads
 returns-clause-reads c = λ fed given follow.
-    subst (λ t. StreamReads fed (given ++ t.decided.placed) t.decided.ending) (sym c.drop_unfinished.ensures.transfer) (elim c.if-is_none.branch [
+    elim c.if-is_none.branch [
       | then-is_none w ↦ subst (λ i. StreamReads fed (given ++ i.transfer.decided.placed) i.transfer.decided.ending) (sym w.self-is) (finishes c.args.self.now.transfer c.args.self.now.unfinished.items fed given w.end-self.result (none_of c.args.self.now.transfer.decided.ending w.if-is_none.ensures) w.end-self.ensures follow)
       | else-is_none w ↦ subst (λ i. StreamReads fed (given ++ i.transfer.decided.placed) i.transfer.decided.ending) (sym w.self-is) (ends_after_fault c.args.self.now.transfer c.args.self.now.unfinished.items fed given (λ none. let some : is_some c.args.self.now.transfer.decided.ending ≡ true = w.if-is_none.ensures in let not_some : is_some c.args.self.now.transfer.decided.ending ≡ false = ap is_some none in let no : ⊥ = cc in no) follow)
-    ])
+    ]
