@@ -14,20 +14,6 @@ use crate::fault::Fault;
 use crate::narrow_failing::NarrowFailing;
 use zone_name::{Name, NameBuilder, NameRef};
 
-/// Appends the octets of the name that a text spells under the origin.
-pub(crate) fn push_name(
-    text: &[u8],
-    origin: &Name,
-    octets: &mut Vec<u8>,
-) -> Result<(), NarrowFailing>
-    ensures found { OnOk result
-        (Appends (Spells (Some origin.now) text.now) wire octets.old.items octets.new.items) }
-    ensures fault { IfErr result (IfFault (IsNameFault origin.now text.now)) }
-{
-    Name::push_spelled(text, Some(origin), octets)??;
-    Ok(())
-}
-
 /// Appends the name at the beginning of octets, in lower case.
 #[tactic(auto, using(crate::proofs::Fields::Name::appends_name))]
 pub(crate) fn push_sent_name<'o>(
