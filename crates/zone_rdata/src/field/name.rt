@@ -1,9 +1,6 @@
-ghost use Rattle.std.specs.Prelude.{[], ◌≡◌, ◌<◌, ℕ, List, Some, IfOk, IfErr, IfSome, IfNone, IsTrue, OnOk};
-ghost use Rattle.zone_name.specs.Name.{labels_of, wire};
-ghost use Rattle.zone_name.specs.Spelling.{Spells};
+ghost use Rattle.std.specs.Prelude.{[], ◌≡◌, ℕ, List, IfOk, IfErr, IfSome, IfNone, IsTrue};
+ghost use Rattle.zone_name.specs.Name.{labels_of};
 ghost use Rattle.zone_rdata.specs.Fault.{IfFault};
-ghost use Rattle.zone_rdata.specs.Fields.Name.{IsNameFault};
-ghost use Rattle.zone_rdata.specs.Appended.{Appends};
 ghost use Rattle.zone_rdata.specs.Machine.Appending.{AppendsValue, BeginsWithNone};
 ghost use Rattle.zone_rdata.specs.Machine.Fronts.{BeginsWithSent};
 ghost use Rattle.zone_rdata.specs.Machine.Printing.{BeginsWithField, after_field};
