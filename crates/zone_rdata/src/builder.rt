@@ -1,6 +1,6 @@
 ghost use Rattle.std.specs.Prelude.{◌≡◌, ◌↔◌, [], ◌≤◌, length, IsTrue, IfOk, IfErr, IfSome, IfNone, OnOk, OnErr, option_map};
 ghost use Rattle.zone_rdata.specs.Builder.{Built, IsNext, IsPushFault, IsWhole, Pushes};
-ghost use Rattle.zone_rdata.specs.Machine.Building.{Grows, IsOver, IsReal, least_of};
+ghost use Rattle.zone_rdata.specs.Machine.Building.{Grows, IsOver, IsReal};
 ghost use Rattle.zone_rdata.specs.Part.{value_of};
 ghost use Rattle.zone_rdata.specs.Fault.{IfFault};
 ghost use Rattle.zone_rdata.specs.Field.{fixed, u32_value, name, octets_of, string, u16_value};
@@ -226,21 +226,15 @@ impl RdataBuilder {
         ensures none { IfNone result
             (IsWhole (layout self.now.class self.now.kind) self.now.parts → ⊥) }
     {
-        if self.count < least_parts(self.fields) {
+        let least = match self.fields {
+            Some(layout) => layout.fields().len(),
+            None => 1,
+        };
+        if self.count < least {
             return None;
         }
         are_octets(&self.octets);
         Some(RdataRef::of_octets(self.class, self.kind, &self.octets))
-    }
-}
-
-/// The fewest parts that are whole.
-fn least_parts(layout: Option<Layout>) -> usize
-    ensures { result ≡ least_of (option_map fields_of layout) }
-{
-    match layout {
-        Some(layout) => layout.fields().len(),
-        None => 1,
     }
 }
 

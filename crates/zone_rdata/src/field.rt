@@ -1,5 +1,5 @@
 ghost use Rattle.std.specs.Prelude.{[], ◌≡◌, ◌↔◌, ◌≤◌, Some, drop, length, map, IsTrue, IfOk, IfErr, OnOk, OnErr};
-ghost use Rattle.zone_rdata.specs.Field.{Suits, is_strings, IsFieldFault, field_at, own_items, field_text};
+ghost use Rattle.zone_rdata.specs.Field.{Suits, IsFieldFault, field_at, own_items, field_text};
 ghost use Rattle.zone_rdata.specs.Part.{value_of};
 ghost use Rattle.zone_rdata.specs.Fault.{IfFault};
 ghost use Rattle.zone_name.specs.Sink.{TakesSome};
@@ -25,8 +25,9 @@ use crate::number::push_decimal;
 use crate::part::Part;
 use crate::string::{push_string, push_string_text};
 use address::{push_address, push_address_text};
-use name::{push_name, push_sent_name, split_name};
-use number::{push_u16, push_u32, split_u16, split_u32};
+use byteorder::{BigEndian, ByteOrder};
+use name::{push_sent_name, split_name};
+use number::{push_u16, push_u32};
 use prefix::push_prefix;
 use string::{push_sent_string, split_string};
 use strings::{push_sent_strings, push_strings, push_strings_text};
@@ -53,13 +54,6 @@ pub enum Field {
 }
 
 impl Field {
-    /// Whether the field takes all that is left.
-    pub(crate) fn is_strings(self) -> bool
-        ensures { result ≡ is_strings self }
-    {
-        matches!(self, Field::Strings)
-    }
-
     /// Appends the octets of the value that the field's items spell, and gives how many items these
     /// are.
     pub(crate) fn push_items(
@@ -82,7 +76,9 @@ impl Field {
             }
             (Field::OneString, Some(item)) => push_string(*item, octets)?,
             (_, None | Some(Item::Quoted(_))) => return Err(NarrowFailing::of(Cause::BadRdata)),
-            (Field::Name, Some(Item::Bare(text))) => push_name(text, origin, octets)?,
+            (Field::Name, Some(Item::Bare(text))) => {
+                Name::push_spelled(text, Some(origin), octets)??;
+            }
             (Field::Serial, Some(Item::Bare(text))) => push_u32(text, octets)?,
             (Field::Time, Some(Item::Bare(text))) => push_time(text, octets)?,
             (Field::U16, Some(Item::Bare(text))) => push_u16(text, octets)?,
@@ -136,13 +132,13 @@ impl Field {
                 Ok(rest)
             }
             Field::Serial | Field::Time => {
-                let (number, rest) = split_u32(octets);
-                push_decimal(number, out)?;
+                let (number, rest) = octets.split_at(4);
+                push_decimal(BigEndian::read_u32(number), out)?;
                 Ok(rest)
             }
             Field::U16 => {
-                let (number, rest) = split_u16(octets);
-                push_decimal(u32::from(number), out)?;
+                let (number, rest) = octets.split_at(2);
+                push_decimal(u32::from(BigEndian::read_u16(number)), out)?;
                 Ok(rest)
             }
             Field::Octets(count) => {

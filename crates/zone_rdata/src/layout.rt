@@ -46,7 +46,7 @@ impl Layout {
         ensures { result ≡ ends_with_strings (fields_of self) }
     {
         match self.fields.last() {
-            Some(field) => field.is_strings(),
+            Some(field) => matches!(field, Field::Strings),
             None => false,
         }
     }

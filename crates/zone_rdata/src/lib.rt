@@ -29,7 +29,6 @@ mod rdata;
 mod reading;
 mod record;
 mod rr_source;
-mod same;
 mod stop_text;
 mod string;
 mod table;

@@ -2,7 +2,7 @@ ghost use Rattle.std.specs.Prelude.{[], ◌≤◌, length, OnOk, OnErr, option_m
 ghost use Rattle.std.specs.List.{AllByRecursion};
 ghost use Rattle.zone_name.specs.Sink.{TakesSome};
 ghost use Rattle.zone_rdata.specs.Layout.{AreLaidOut, IsSized, fields_of};
-ghost use Rattle.zone_rdata.specs.Machine.Printing.{generic_head, laid_out_text, spaced};
+ghost use Rattle.zone_rdata.specs.Machine.Printing.{generic_head, laid_out_text};
 ghost use Rattle.zone_rdata.specs.Text.{generic_text};
 ghost use Rattle.hex.specs.Hex.{encode_lower};
 
@@ -11,17 +11,6 @@ use crate::layout::Layout;
 use arrayvec::ArrayVec;
 use itoa::Buffer;
 use zone_name::Sink;
-
-/// Appends the space that parts a field from the one before it: none before the first.
-fn push_space<S: Sink>(place: usize, out: &mut S) -> Result<(), S::Error>
-    ensures ok { OnOk result (S.takes out.old (spaced place []) out.new) }
-    ensures err { OnErr result (S.takes out.old [] out.new) }
-{
-    if place > 0 {
-        out.push(b" ")?;
-    }
-    Ok(())
-}
 
 /// Appends the fields, parted by single spaces.
 #[tactic(auto, using(crate::proofs::Texts::FieldTexts::printed_last))]
@@ -35,7 +24,9 @@ fn push_fields<S: Sink>(layout: Layout, octets: &[u8], out: &mut S) -> Result<()
     let fields = layout.fields();
     let mut rest = octets;
     for (i, field) in fields.iter().enumerate() {
-        push_space(i, out)?;
+        if i > 0 {
+            out.push(b" ")?;
+        }
         rest = field.push_text(rest, i + 1 == fields.len(), out)?;
     }
     Ok(())

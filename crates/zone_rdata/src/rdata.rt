@@ -24,7 +24,7 @@ use crate::limits::LONGEST_DATA;
 use crate::narrow_failing::NarrowFailing;
 use crate::printing::push_data;
 use crate::reading::{is_generic, read_words};
-use crate::uncompressed::{canonical_for, canonical_of};
+use crate::uncompressed::canonical_of;
 use std::alloc::{AllocError, Global};
 use std::marker::Model;
 use zone_name::laws::are_octets;
@@ -69,7 +69,7 @@ fn read_in_form(
 {
     read_generic(items, octets)?;
     if let Some(layout) = layout {
-        *octets = canonical_of(*octets.allocator(), layout, octets)?;
+        *octets = canonical_of(*octets.allocator(), Some(layout), octets)?;
     }
     Ok(())
 }
@@ -196,7 +196,7 @@ impl Rdata {
         if octets.len() > LONGEST_DATA {
             return Err(Failing::Fault(Fault::RdataTooLong));
         }
-        let octets = canonical_for(alloc, layout_of(class, kind), octets)?;
+        let octets = canonical_of(alloc, layout_of(class, kind), octets)?;
         are_octets(&octets);
         Ok(Rdata {
             class,

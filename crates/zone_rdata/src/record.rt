@@ -1,4 +1,4 @@
-ghost use Rattle.std.specs.Prelude.{◌≡◌, ◌<◌, ◌≤◌, ◌↔◌, IfOk, IfErr, IsOk, OnOk, Err};
+ghost use Rattle.std.specs.Prelude.{◌≡◌, ◌<◌, ◌≤◌, ◌↔◌, IfOk, IfErr, IsOk, IsTrue, OnOk, Err};
 ghost use Rattle.zone_rdata.specs.Lent.{placed_of, record_of};
 ghost use Rattle.zone_rdata.specs.Record.{Record, IsRecord, data_of, record_with};
 
@@ -185,6 +185,17 @@ impl<'a> RrRef<'a> {
     {
         let rdata = self.rdata.to_rdata(alloc)?;
         Ok(Rr::of_parts(self.owner.to_name(), self.ttl, rdata))
+    }
+
+    /// Whether the other has the same owner, class, type, TTL and data.
+    pub fn is_same(&self, other: &RrRef<'_>) -> bool
+        ensures { IsTrue result ↔ (record_of self.now ≡ record_of other.now) }
+    {
+        self.kind == other.kind
+            && self.ttl == other.ttl
+            && self.class == other.class
+            && self.rdata.octets() == other.rdata.octets()
+            && self.owner.is_same(&other.owner)
     }
 
     /// Does nothing, and tells contracts what holds of every record.

@@ -24,6 +24,14 @@ still_more i text texts = grind (arith, joined_more)
 spaced_text : (i : ℕ) (text : List ℕ) → spaced i [] ++ text ≡ spaced i text
 spaced_text i text = grind arith
 
+pub space_taken : {S : Type 0} (takes : S → List ℕ → S → Type 0) (i : ℕ) (a b : S) → 0 < i → takes a (32 ∷ []) b → takes a (spaced i []) b
+space_taken takes zero a b some t = absurd (omega arith)
+space_taken takes (suc i) a b some t = t
+
+pub no_space : {S : Type 0} (takes : S → List ℕ → S → Type 0) (i : ℕ) (a b : S) → i ≤ 0 → takes a [] b → takes a (spaced i []) b
+no_space takes zero a b none t = t
+no_space takes (suc i) a b none t = absurd (omega arith)
+
 -- the fields up to a place are printed: the rest is laid out, and its text is what is left of the
 -- whole
 pub record HavePrinted (row : List Field) (whole : List ℕ) (i : ℕ) (rest text : List ℕ) : Type 0 where

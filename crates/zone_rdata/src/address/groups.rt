@@ -145,10 +145,5 @@ pub fn four_groups_of(text: &[u8]) -> Option<[u8; 8]>
     ensures none { IfNone result (NothingIs (AreFourGroups text.now)) }
 {
     let groups = octets_of_parts(text, false)?;
-    if groups.len() != 8 {
-        return None;
-    }
-    let mut octets = [0; 8];
-    octets.copy_from_slice(groups.as_slice());
-    Some(octets)
+    <[u8; 8]>::try_from(groups.as_slice()).ok()
 }

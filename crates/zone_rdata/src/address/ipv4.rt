@@ -24,11 +24,7 @@ fn octet_of(text: &[u8]) -> Option<u8>
     ensures found { IfSome result (λ n. IsOctetNumber text.now n) }
     ensures none { IfNone result (NothingIs (IsOctetNumber text.now)) }
 {
-    let number = decimal_of(text)?;
-    if number > 255 {
-        return None;
-    }
-    Some(number as u8)
+    u8::try_from(decimal_of(text)?).ok()
 }
 
 /// The octet of the number before the first dot, and what stands after that dot.

@@ -28,12 +28,7 @@ fn octets_of_eight(text: &[u8]) -> Option<[u8; 16]>
         → length octets ≡ 16 → ⊥) }
 {
     let parts = octets_of_parts(text, true)?;
-    if parts.len() != 16 {
-        return None;
-    }
-    let mut octets = [0; 16];
-    octets.copy_from_slice(parts.as_slice());
-    Some(octets)
+    <[u8; 16]>::try_from(parts.as_slice()).ok()
 }
 
 /// The octets of the groups before and after `::`, and of the zero groups between them. `None`:

@@ -1,24 +1,15 @@
-ghost use Rattle.std.specs.Prelude.{◌≡◌, ◌+◌, ◌-◌, ◌*◌, ◌%◌, ◌<◌, ◌≤◌, ◌∷◌, ◌++◌, decimal, [], length, slice_index, OnOk, OnErr};
+ghost use Rattle.std.specs.Prelude.{◌≡◌, ◌+◌, ◌-◌, ◌*◌, ◌%◌, ◌<◌, ◌≤◌, ◌∷◌, ◌++◌, decimal, [], length, OnOk, OnErr};
 ghost use Rattle.std.specs.Char.{digit_char};
-ghost use Rattle.std.specs.Net.Addr.{segments_of};
 ghost use Rattle.std.specs.Net.Text as std_text;
 ghost use Rattle.arrayvec.specs.ArrayVec.{array_vec_len};
 ghost use Rattle.zone_rdata.specs.Address.{ipv4_text, ipv6_text, parted_groups};
 
 use arrayvec::ArrayVec;
-use byteorder::{BigEndian, ByteOrder};
+use std::net::Ipv6Addr;
 use zone_name::Sink;
 
 /// Room for the longest text of an address, which has 39 octets.
 const ROOM: usize = 40;
-
-/// Appends octets to a text.
-fn push_octets(text: &mut ArrayVec<u8, ROOM>, octets: &[u8])
-    requires { array_vec_len text.old + length octets.now ≤ ROOM }
-    ensures { text.new.items ≡ text.old.items ++ octets.now }
-{
-    let _ = text.try_extend_from_slice(octets);
-}
 
 /// Appends an octet in decimal.
 fn push_number(text: &mut ArrayVec<u8, ROOM>, octet: u8)
@@ -97,18 +88,12 @@ fn push_groups(text: &mut ArrayVec<u8, ROOM>, groups: &[u16])
     }
 }
 
-/// Zero groups in a row.
-#[derive(Clone, Copy)]
-struct ZeroRun {
-    start: usize,
-    len: usize,
-}
-
-/// The longest run of zero groups, the first of equal ones (RFC 5952 4.2.3).
-fn longest_zero_run(groups: &[u16]) -> ZeroRun
-    ensures start { result.start ≡ (std_text.longest_zero_run groups.now).0 }
-    ensures len { result.len ≡ (std_text.longest_zero_run groups.now).1 }
-    ensures within { result.start + result.len ≤ length groups.now }
+/// Where the longest run of zero groups begins, the first of equal ones, and how many it has (RFC
+/// 5952 4.2.3).
+fn longest_zero_run(groups: &[u16]) -> (usize, usize)
+    ensures start { result.0 ≡ (std_text.longest_zero_run groups.now).0 }
+    ensures len { result.1 ≡ (std_text.longest_zero_run groups.now).1 }
+    ensures within { result.0 + result.1 ≤ length groups.now }
 {
     let mut start = groups.len();
     let mut len = 0;
@@ -120,32 +105,7 @@ fn longest_zero_run(groups: &[u16]) -> ZeroRun
             len = run;
         }
     }
-    ZeroRun { start, len }
-}
-
-/// The group that begins at an offset, its higher octet first.
-fn group_at(octets: &[u8], at: usize) -> u16
-    requires { at + 1 < length octets.now }
-    ensures { result ≡ slice_index octets.now at * 256 + slice_index octets.now (at + 1) }
-{
-    BigEndian::read_u16(&octets[at..])
-}
-
-/// The groups of sixteen octets.
-fn groups_of(octets: &[u8]) -> [u16; 8]
-    requires { length octets.now ≡ 16 }
-    ensures { result ≡ segments_of octets.now }
-{
-    [
-        group_at(octets, 0),
-        group_at(octets, 2),
-        group_at(octets, 4),
-        group_at(octets, 6),
-        group_at(octets, 8),
-        group_at(octets, 10),
-        group_at(octets, 12),
-        group_at(octets, 14),
-    ]
+    (start, len)
 }
 
 /// The text of sixteen octets (RFC 5952 4).
@@ -154,16 +114,19 @@ fn text_of_ipv6(octets: &[u8]) -> ArrayVec<u8, ROOM>
     ensures written { result.items ≡ ipv6_text octets.now }
     ensures short { array_vec_len result ≤ 39 }
 {
-    let groups = groups_of(octets);
-    let run = longest_zero_run(&groups);
+    let mut sixteen = [0; 16];
+    sixteen.copy_from_slice(octets);
+    let groups = Ipv6Addr::from_octets(sixteen).segments();
+    let (start, len) = longest_zero_run(&groups);
     let mut text = ArrayVec::new();
-    if run.len < 2 {
+    if len < 2 {
         push_groups(&mut text, &groups);
         return text;
     }
-    push_groups(&mut text, &groups[..run.start]);
-    push_octets(&mut text, b"::");
-    push_groups(&mut text, &groups[run.start + run.len..]);
+    push_groups(&mut text, &groups[..start]);
+    text.push(b':');
+    text.push(b':');
+    push_groups(&mut text, &groups[start + len..]);
     text
 }
 

@@ -1,9 +1,6 @@
-ghost use Rattle.std.specs.Prelude.{[], ◌≡◌, ◌<◌, ℕ, List, Some, IfOk, IfErr, IfSome, IfNone, IsTrue, OnOk};
-ghost use Rattle.zone_name.specs.Name.{labels_of, wire};
-ghost use Rattle.zone_name.specs.Spelling.{Spells};
+ghost use Rattle.std.specs.Prelude.{[], ◌≡◌, ℕ, List, IfOk, IfErr, IfSome, IfNone, IsTrue};
+ghost use Rattle.zone_name.specs.Name.{labels_of};
 ghost use Rattle.zone_rdata.specs.Fault.{IfFault};
-ghost use Rattle.zone_rdata.specs.Fields.Name.{IsNameFault};
-ghost use Rattle.zone_rdata.specs.Appended.{Appends};
 ghost use Rattle.zone_rdata.specs.Machine.Appending.{AppendsValue, BeginsWithNone};
 ghost use Rattle.zone_rdata.specs.Machine.Fronts.{BeginsWithSent};
 ghost use Rattle.zone_rdata.specs.Machine.Printing.{BeginsWithField, after_field};
@@ -13,20 +10,6 @@ use crate::cause::Cause;
 use crate::fault::Fault;
 use crate::narrow_failing::NarrowFailing;
 use zone_name::{Name, NameBuilder, NameRef};
-
-/// Appends the octets of the name that a text spells under the origin.
-pub(crate) fn push_name(
-    text: &[u8],
-    origin: &Name,
-    octets: &mut Vec<u8>,
-) -> Result<(), NarrowFailing>
-    ensures found { OnOk result
-        (Appends (Spells (Some origin.now) text.now) wire octets.old.items octets.new.items) }
-    ensures fault { IfErr result (IfFault (IsNameFault origin.now text.now)) }
-{
-    Name::push_spelled(text, Some(origin), octets)??;
-    Ok(())
-}
 
 /// Appends the name at the beginning of octets, in lower case.
 #[tactic(auto, using(crate::proofs::Fields::Name::appends_name))]

@@ -1,14 +1,13 @@
 //! Laws of the items that state record data (RFC 1035 5.1; RFC 3597 5).
-ghost use Rattle.std.specs.Prelude.{◌≡◌, ◌⊎◌, List, ℕ, Some};
+ghost use Rattle.std.specs.Prelude.{◌≡◌, List, ℕ, Some};
 ghost use Rattle.std.specs.List.{AllByRecursion};
-ghost use Rattle.zone_name.specs.Common.{Labels, AreOctets};
+ghost use Rattle.zone_name.specs.Common.{AreOctets, AtMostOneIs, EitherIs, Labels, NeverBothAre};
 ghost use Rattle.zone_name.specs.Name.{IsName};
 ghost use Rattle.zone_rdata.specs.DataFault.{IsDataFault};
 ghost use Rattle.zone_rdata.specs.Item.{RawItem};
 ghost use Rattle.zone_rdata.specs.Layout.{IsData, IsLayout, layout};
 ghost use Rattle.zone_rdata.specs.Spelling.{States};
 ghost use Rattle.zone_rdata.specs.Strings.{item_text};
-ghost use Rattle.zone_rdata.specs.declared.fault.Fault.{Fault};
 ghost use Rattle.zone_rdata.specs.declared.field.Field.{Field};
 
 use zone_name::laws::{spelling_is_unique, texts_have_one_verdict};
@@ -23,8 +22,8 @@ pub fn layouts_are_sound()
 
 /// Items state at most one value of a class and type under an origin.
 pub fn data_is_unique()
-    ensures { (origin : Labels) (class kind : ℕ) (items : List RawItem) (a b : List ℕ)
-        → States origin class kind items a → States origin class kind items b → a ≡ b }
+    ensures { (origin : Labels) (class kind : ℕ) (items : List RawItem)
+        → AtMostOneIs (States origin class kind items) }
 {
     spelling_is_unique();
 }
@@ -40,17 +39,15 @@ pub fn stated_data_is_data()
 pub fn data_or_fault()
     ensures { (origin : Labels) (class kind : ℕ) (items : List RawItem) → IsName origin
         → AllByRecursion (λ item. AreOctets (item_text item)) items
-        → ((octets : List ℕ) × States origin class kind items octets)
-        ⊎ ((fault : Fault) × IsDataFault origin class kind items fault) }
+        → EitherIs (States origin class kind items) (IsDataFault origin class kind items) }
 {
     texts_have_one_verdict();
 }
 
 /// Items that have a first fault state no value.
 pub fn faulty_items_state_none()
-    ensures { (origin : Labels) (class kind : ℕ) (items : List RawItem) (octets : List ℕ)
-        (fault : Fault) → States origin class kind items octets
-        → IsDataFault origin class kind items fault → ⊥ }
+    ensures { (origin : Labels) (class kind : ℕ) (items : List RawItem)
+        → NeverBothAre (States origin class kind items) (IsDataFault origin class kind items) }
 {
     spelling_is_unique();
     texts_have_one_verdict();
@@ -58,8 +55,8 @@ pub fn faulty_items_state_none()
 
 /// Items have at most one first fault.
 pub fn data_fault_is_unique()
-    ensures { (origin : Labels) (class kind : ℕ) (items : List RawItem) (a b : Fault)
-        → IsDataFault origin class kind items a → IsDataFault origin class kind items b → a ≡ b }
+    ensures { (origin : Labels) (class kind : ℕ) (items : List RawItem)
+        → AtMostOneIs (IsDataFault origin class kind items) }
 {
     texts_have_one_verdict();
 }

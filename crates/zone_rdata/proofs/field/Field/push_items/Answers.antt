@@ -1,6 +1,6 @@
-use Rattle.zone_rdata.proofs.Common.{refl, rules, fixed, name, string, u16_value, u32_value, Bare}
+use Rattle.zone_rdata.proofs.Common.{refl, rules, fixed, name, string, u16_value, u32_value, wire, Appends, Bare, Some, Spells}
 use Rattle.zone_rdata.proofs.Items.Values.{all_appended, first_appended}
-use Rattle.zone_rdata.proofs.field.Field.push_items.Goals.{in-OneString-Some+in_ok-push_string-in-OneString-Some, in-Name-Some-Bare+in_ok-push_name-in-Name-Some-Bare, in-Serial-Some-Bare+in_ok-push_u32-in-Serial-Some-Bare, in-Time-Some-Bare+in_ok-push_time-in-Time-Some-Bare, in-U16-Some-Bare+in_ok-push_u16-in-U16-Some-Bare, in-Octets-Some-Bare+in_ok-push_address-in-Octets-Some-Bare}
+use Rattle.zone_rdata.proofs.field.Field.push_items.Goals.{in-OneString-Some+in_ok-push_string-in-OneString-Some, in-Name-Some-Bare+in_ok-push_spelled-in-Name-Some-Bare+in_ok-branch-in-Name-Some-Bare, in-Serial-Some-Bare+in_ok-push_u32-in-Serial-Some-Bare, in-Time-Some-Bare+in_ok-push_time-in-Time-Some-Bare, in-U16-Some-Bare+in_ok-push_u16-in-U16-Some-Bare, in-Octets-Some-Bare+in_ok-push_address-in-Octets-Some-Bare}
 use Rattle.zone_rdata.proofs.field.Field.push_items.Goals as goal
 
 pub returns-in-Strings-default-clause-found : goal.returns-in-Strings-default-clause-found
@@ -9,7 +9,10 @@ returns-in-Strings-default-clause-found c = all_appended _ _ _ _ _ c.in-Strings-
 pub returns-clause-found : goal.returns-clause-found
 returns-clause-found c = elim c.match-self.branch [
   | in-OneString-Some+in_ok-push_string-in-OneString-Some w ↦ rw w.octets-is (first_appended string _ _ _ _ _ _ _ w.in-OneString-Some.is-0 w.in-OneString-Some.ensures.value (λ rest. refl) (λ x rest h. h) (λ x. refl) w.in_ok-push_string-in-OneString-Some.ensures.found)
-  | in-Name-Some-Bare+in_ok-push_name-in-Name-Some-Bare w ↦ rw w.octets-is (first_appended name _ _ _ (Bare w.in-Name-Some-Bare.text) _ _ _ w.in-Name-Some-Bare.is-0 (search rules) (λ rest. refl) (λ x rest h. h) (λ x. refl) w.in_ok-push_name-in-Name-Some-Bare.ensures.found)
+  | in-Name-Some-Bare+in_ok-push_spelled-in-Name-Some-Bare+in_ok-branch-in-Name-Some-Bare w ↦
+      let found = rw w.in_ok-branch-in-Name-Some-Bare.was at w.in_ok-push_spelled-in-Name-Some-Bare.ensures.found in
+      let appends : Appends (Spells (Some c.args.origin.now) w.in-Name-Some-Bare.text.now) wire c.args.octets.now.items _ = record { value = found.0; stated = found.1; written = found.2 } in
+      rw w.octets-is (first_appended name _ _ _ (Bare w.in-Name-Some-Bare.text) _ _ _ w.in-Name-Some-Bare.is-0 (search rules) (λ rest. refl) (λ x rest h. h) (λ x. refl) appends)
   | in-Serial-Some-Bare+in_ok-push_u32-in-Serial-Some-Bare w ↦ rw w.octets-is (first_appended u32_value _ _ _ (Bare w.in-Serial-Some-Bare.text) _ _ _ w.in-Serial-Some-Bare.is-0 (search rules) (λ rest. refl) (λ x rest h. h) (λ x. refl) w.in_ok-push_u32-in-Serial-Some-Bare.ensures.found)
   | in-Time-Some-Bare+in_ok-push_time-in-Time-Some-Bare w ↦ rw w.octets-is (first_appended u32_value _ _ _ (Bare w.in-Time-Some-Bare.text) _ _ _ w.in-Time-Some-Bare.is-0 (search rules) (λ rest. refl) (λ x rest h. h) (λ x. refl) w.in_ok-push_time-in-Time-Some-Bare.ensures.found)
   | in-U16-Some-Bare+in_ok-push_u16-in-U16-Some-Bare w ↦ rw w.octets-is (first_appended u16_value _ _ _ (Bare w.in-U16-Some-Bare.text) _ _ _ w.in-U16-Some-Bare.is-0 (search rules) (λ rest. refl) (λ x rest h. h) (λ x. refl) w.in_ok-push_u16-in-U16-Some-Bare.ensures.found)
