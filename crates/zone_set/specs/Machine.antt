@@ -3,7 +3,6 @@ pub mod LabelKey
 pub mod Hint
 pub mod Stored
 pub mod Held
-pub mod Refusal
 pub mod Bulk
 pub mod Places
 pub mod Owner

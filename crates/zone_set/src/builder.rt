@@ -1,39 +1,12 @@
-ghost use Rattle.std.specs.Prelude.{◌≡◌, [], OnOk, OnErr, IfOk, IfErr};
-ghost use Rattle.zone_rdata.specs.Lent.{record_of};
+ghost use Rattle.std.specs.Prelude.{◌≡◌, OnOk, OnErr, IfOk, IfErr};
 ghost use Rattle.zone_set.specs.Builder.{Accepts, Adds, StopsAdd, TakesAll, StopsTaking, StopsFinish};
 ghost use Rattle.zone_set.specs.Zone.{AreCompatible, IsZone};
 
-use crate::sets::Sets;
+use crate::sets::ZoneBuilder;
 use crate::zone::Zone;
-use std::alloc::Global;
-use std::marker::Model;
-use zone_rdata::{Fault, Place, Placed, RrRef, RrSource, Stop};
-
-/// The records of a zone so far. Contracts see their set, as its one list in canonical order.
-#[derive(Drop)]
-pub struct ZoneBuilder {
-    pub(crate) sets: Sets,
-}
-
-impl Model for ZoneBuilder {
-    ghost use Rattle.std.specs.Prelude.{List};
-    ghost use Rattle.zone_rdata.specs.Record.{Record};
-
-    ghost Value = { List Record };
-
-    ghost view = { λ b. b.sets };
-}
+use zone_rdata::{Fault, Place, Placed, RrSource, Stop};
 
 impl ZoneBuilder {
-    /// A builder that holds no record.
-    pub fn new(alloc: Global) -> ZoneBuilder
-        ensures { result ≡ [] }
-    {
-        ZoneBuilder {
-            sets: Sets::new(alloc),
-        }
-    }
-
     /// Takes a record. An equal record is dropped.
     ///
     /// # Errors
@@ -52,21 +25,6 @@ impl ZoneBuilder {
         match self.hold(&placed.rr.lend(), placed.place) {
             Ok(()) => Ok(()),
             Err(stop) => Err((stop, placed)),
-        }
-    }
-
-    /// `add` for a borrowed record of a place.
-    pub(crate) fn hold(&mut self, rr: &RrRef<'_>, place: Place) -> Result<(), Stop>
-        ensures accepted { OnOk result (Accepts self.old (record_of rr.now)) }
-        ensures taken { OnOk result (Adds self.old (record_of rr.now) self.new) }
-        ensures refused { IfErr result
-            (StopsAdd self.old (record { rr = record_of rr.now; place = place })) }
-        ensures unchanged { OnErr result (self.new ≡ self.old) }
-    {
-        rr.known();
-        match self.sets.add(rr) {
-            Ok(()) => Ok(()),
-            Err(refusal) => Err(refusal.stop_at(place)),
         }
     }
 
@@ -110,8 +68,7 @@ impl ZoneBuilder {
         ensures records { IfOk result (λ z. z.records ≡ self) }
         ensures stopped { IfErr result (StopsFinish self) }
     {
-        let sets = self.sets;
-        let Some(first) = sets.iter().next() else {
+        let Some(first) = self.iter().next() else {
             return Err(Stop::Refused(Fault::NoSoa, Place::Whole));
         };
         // An SOA goes before all else.
@@ -119,10 +76,14 @@ impl ZoneBuilder {
             return Err(Stop::Refused(Fault::NoSoa, Place::Whole));
         }
         let (apex, class) = (first.owner.to_name(), first.class);
-        if let Some(owner) = sets.first_outside(&apex) {
+        if let Some(owner) = self.first_outside(&apex) {
             let outside = Fault::OutOfZone(owner.to_name());
             return Err(Stop::Refused(outside, Place::Whole));
         }
-        Ok(Zone { apex, class, sets })
+        Ok(Zone {
+            apex,
+            class,
+            sets: self,
+        })
     }
 }

@@ -1,6 +1,5 @@
-ghost use Rattle.std.specs.Prelude.{◌≡◌, List, length, drop};
+ghost use Rattle.std.specs.Prelude.{◌≡◌, List};
 ghost use Rattle.zone_rdata.specs.Record.{Record};
-ghost use Rattle.zone_set.specs.Machine.Bulk as bulk;
 ghost use Rattle.zone_set.specs.Machine.Stored.{AreKept};
 
 use crate::stored::record_at;
@@ -54,15 +53,8 @@ impl<'z> Iterator for KeptRecords<'z> {
             return None;
         }
         let rr = record_at(self.class, self.octets, 0);
-        self.octets = after_first(self.octets);
+        let (_, rest) = self.octets.split_at(span(self.octets, 0).len());
+        self.octets = rest;
         Some(rr)
     }
-}
-
-/// The octets after those of the first record.
-fn after_first(octets: &[u8]) -> &[u8]
-    ensures { result.now ≡ drop (length (bulk.span octets.now 0)) octets.now }
-{
-    let (_, rest) = octets.split_at(span(octets, 0).len());
-    rest
 }

@@ -19,7 +19,6 @@ mod owner;
 mod places;
 mod put;
 mod records;
-mod refusal;
 mod repeats;
 mod sets;
 mod stored;
@@ -27,9 +26,9 @@ mod tie;
 mod unordered;
 mod zone;
 
-pub use builder::ZoneBuilder;
 pub use list::ZoneList;
 pub use records::Records;
+pub use sets::ZoneBuilder;
 pub use unordered::UnorderedRecords;
 pub use zone::Zone;
 pub use zone_rdata::RrRef;

@@ -12,7 +12,6 @@ ghost use Rattle.zone_set.specs.Zone.{Has};
 ghost use Rattle.zone_set.specs.declared.entry.Entry.{Entry};
 ghost use Rattle.zone_set.specs.ZoneList.{IsSettledAs, ListsAll, StopsListing, StopsSettling, Tells};
 
-use crate::builder::ZoneBuilder;
 use crate::bulk::settle;
 use crate::entry::Entry;
 use crate::hint::{hint_of, told_front};
@@ -21,7 +20,7 @@ use crate::messages::len_of_entries;
 use crate::offer::offer;
 use crate::places::Places;
 use crate::repeats::{FIRST_MARK, Groups, may_be_many};
-use crate::sets::Sets;
+use crate::sets::ZoneBuilder;
 use crate::stored::{append, record_at};
 use std::alloc::{AllocError, Global};
 use std::marker::Model;
@@ -320,8 +319,8 @@ fn settle_parts(
     if settle(class, base.wire().len(), octets.as_slice(), &mut entries) {
         let alone = entries.len() == listed;
         let message_len = len_of_entries(class, octets.as_slice(), entries.as_slice(), alone);
-        let sets = Sets::of_sorted(alloc, class, base, octets, entries, message_len, alone)?;
-        return Ok(ZoneBuilder { sets });
+        let held = ZoneBuilder::of_sorted(alloc, class, base, octets, entries, message_len, alone)?;
+        return Ok(held);
     }
     // In the order in which they came the first that is refused shows.
     offer(alloc, class, octets.as_slice(), &places)

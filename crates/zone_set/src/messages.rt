@@ -21,20 +21,10 @@ pub(crate) fn len_of_entries(class: Class, octets: &[u8], entries: &[Entry], alo
     ensures { result
         ≡ min (message_octets (all_records class octets.now entries.now)) (2 ^ 64 - 1) }
 {
-    if !alone {
-        return counted(class, octets, entries);
+    if alone {
+        // A message has the class of each record in two octets more, and the owner's length in none.
+        return (octets.len() as u64).saturating_add(entries.len() as u64);
     }
-    // A message has the class of each record in two octets more, and the owner's length in none.
-    (octets.len() as u64).saturating_add(entries.len() as u64)
-}
-
-/// The octets that the records of entries take in messages, or 2^64 - 1 where they are more.
-fn counted(class: Class, octets: &[u8], entries: &[Entry]) -> u64
-    ghost base: { Labels }
-    requires { AllByRecursion (IsEntry base class octets.now) entries.now }
-    ensures { result
-        ≡ min (message_octets (all_records class octets.now entries.now)) (2 ^ 64 - 1) }
-{
     let mut message_len: u64 = 0;
     let mut left = entries;
     while let Some((entry, rest)) = left.split_first() {

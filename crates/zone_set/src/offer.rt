@@ -4,9 +4,9 @@ ghost use Rattle.zone_set.specs.Machine.Bulk.{placed_at};
 ghost use Rattle.zone_set.specs.Machine.Stored.{AreKept};
 ghost use Rattle.zone_set.specs.ZoneList.{IsSettledAs, StopsSettling};
 
-use crate::builder::ZoneBuilder;
 use crate::kept_records::KeptRecords;
 use crate::places::Places;
+use crate::sets::ZoneBuilder;
 use std::alloc::Global;
 use zone_rdata::{Class, Stop};
 

@@ -1,21 +1,21 @@
-ghost use Rattle.std.specs.Prelude.{◌≡◌, ◌↔◌, false, IsTrue, IfOk, IfErr, IfSome, MatchOption, OnOk, OnErr};
+ghost use Rattle.std.specs.Prelude.{◌≡◌, ◌↔◌, ◌⊎◌, false, IsTrue, IfOk, IfErr, IfSome, MatchOption, OnOk, OnErr};
 ghost use Rattle.std.specs.List.{AllByRecursion};
 ghost use Rattle.sorted_chunks.specs.Chunks.{joined};
 ghost use Rattle.zone_rdata.specs.Record.{data_of, IsRecord};
 ghost use Rattle.zone_set.specs.Builder.{OtherTtl};
+ghost use Rattle.zone_rdata.specs.declared.fault.Fault.TheVariants.{DifferingTtl};
+ghost use Rattle.zone_rdata.specs.declared.fault.Stop.TheVariants.{Memory, Refused};
 ghost use Rattle.zone_set.specs.Machine.Held.{all_records, entry_record, HoldsEntries, HasOtherTtl, IsComparable, IsEntry, IsPut};
-ghost use Rattle.zone_set.specs.Machine.Refusal.{IsSetRefusal};
 ghost use Rattle.zone_rdata.specs.Lent.{record_of};
 ghost use Rattle.zone_set.specs.Zone.{covered_octets};
 
 use crate::entry::Entry;
 use crate::hint::hint_of;
 use crate::offered::Offered;
-use crate::refusal::Refusal;
 use crate::stored::append;
 use sorted_chunks::SortedChunks;
 use zone_name::Name;
-use zone_rdata::RrRef;
+use zone_rdata::{Fault, Place, RrRef, Stop};
 
 /// How many entries a chunk holds at most.
 pub(crate) const LIMIT: usize = 512;
@@ -25,14 +25,15 @@ pub(crate) const LIMIT: usize = 512;
 ///
 /// # Errors
 ///
-/// `OtherTtl` where a record of its set has another TTL, or want of memory. The records are
-/// unchanged.
+/// `DifferingTtl` at its place where a record of its set has another TTL, or want of memory. The
+/// records are unchanged.
 pub(crate) fn put(
     entries: &mut SortedChunks<Entry, LIMIT>,
     octets: &mut Vec<u8>,
     base: &Name,
     rr: &RrRef<'_>,
-) -> Result<bool, Refusal>
+    place: Place,
+) -> Result<bool, Stop>
     requires whole { IsRecord (record_of rr.now) }
     requires holds { HoldsEntries base.now rr.now.class octets.old.items (joined entries.old) }
     ensures each { AllByRecursion (IsEntry base.now rr.now.class octets.new.items)
@@ -44,9 +45,9 @@ pub(crate) fn put(
     ensures one_ttl { OnOk result
         (OtherTtl (all_records rr.now.class octets.old.items (joined entries.old))
         (record_of rr.now) → ⊥) }
-    ensures refused { IfErr result
-        (IsSetRefusal (all_records rr.now.class octets.old.items (joined entries.old))
-        (record_of rr.now)) }
+    ensures refused { IfErr result (λ stop. (stop ≡ Memory) ⊎ ((stop ≡ Refused DifferingTtl place)
+        × OtherTtl (all_records rr.now.class octets.old.items (joined entries.old))
+        (record_of rr.now))) }
     ensures same_entries { OnErr result (entries.new ≡ entries.old) }
     ensures unchanged { OnErr result (all_records rr.now.class octets.new.items (joined entries.new)
         ≡ all_records rr.now.class octets.old.items (joined entries.old)) }
@@ -57,21 +58,21 @@ pub(crate) fn put(
         hint,
         rr,
     };
-    let place = entries.place_of(&offered);
+    let position = entries.place_of(&offered);
     // The records of a set stand together, so a neighbour is one of them where any is held.
-    let last = entries.last_before(place).copied();
-    let first = entries.first_after(place).copied();
+    let last = entries.last_before(position).copied();
+    let first = entries.first_after(position).copied();
     if is_of_other_ttl(&offered, last) {
-        return Err(Refusal::OtherTtl);
+        return Err(Stop::Refused(Fault::DifferingTtl, place));
     }
     if is_of_other_ttl(&offered, first) {
-        return Err(Refusal::OtherTtl);
+        return Err(Stop::Refused(Fault::DifferingTtl, place));
     }
     if is_equal(&offered, first) {
         return Ok(false);
     }
     let at = append(octets, rr)?;
-    entries.insert(place, Entry { hint, at })?;
+    entries.insert(position, Entry { hint, at })?;
     Ok(true)
 }
 

@@ -3,10 +3,9 @@ ghost use Rattle.std.specs.List.{AllByRecursion};
 ghost use Rattle.std.specs.List.Sorted.{IsPermutation};
 ghost use Rattle.sorted_chunks.specs.Chunks.{joined};
 ghost use Rattle.zone_name.specs.Name.{IsWithin};
-ghost use Rattle.zone_rdata.specs.Record.{Record, IsRecord};
-ghost use Rattle.zone_set.specs.Builder.{Accepts, Adds, AreTwoSoas, OtherClass, OtherSoa};
+ghost use Rattle.zone_rdata.specs.Record.{Record};
+ghost use Rattle.zone_set.specs.Builder.{Accepts, Adds, AreTwoSoas, OtherClass, OtherSoa, StopsAdd};
 ghost use Rattle.zone_set.specs.Machine.Held.{all_records, IsFirstOutside, KeepsSets};
-ghost use Rattle.zone_set.specs.Machine.Refusal.{IsRefusal};
 ghost use Rattle.zone_set.specs.Message.{message_octets};
 ghost use Rattle.zone_rdata.specs.Lent.{record_of};
 ghost use Rattle.zone_set.specs.Zone.{AreCompatible};
@@ -16,18 +15,17 @@ use crate::kept_records::KeptRecords;
 use crate::messages::octets_with;
 use crate::put::{LIMIT, put};
 use crate::records::Records;
-use crate::refusal::Refusal;
 use crate::stored::record_at;
-use crate::unordered::UnorderedRecords;
+use crate::unordered::{Left, UnorderedRecords};
 use sorted_chunks::SortedChunks;
 use std::alloc::{AllocError, Global};
 use std::marker::Model;
 use zone_name::{Name, NameRef};
-use zone_rdata::{Class, RrRef};
+use zone_rdata::{Class, Fault, Place, RrRef, Stop};
 
-/// Records that can stand together. Contracts see them in canonical order.
+/// The records of a zone so far. Contracts see their set, as its one list in canonical order.
 #[derive(Drop)]
-pub(crate) struct Sets {
+pub struct ZoneBuilder {
     /// The class of all records.
     class: Class,
     /// The owner of the first record that came, which hints are relative to.
@@ -42,7 +40,7 @@ pub(crate) struct Sets {
     alone: bool,
 }
 
-impl Model for Sets {
+impl Model for ZoneBuilder {
     ghost use Rattle.std.specs.Prelude.{List};
     ghost use Rattle.sorted_chunks.specs.Chunks.{joined};
     ghost use Rattle.zone_rdata.specs.Record.{Record};
@@ -56,16 +54,16 @@ impl Model for Sets {
         KeepsSets s.class s.base s.octets.items (joined s.entries) s.message_len s.alone };
 }
 
-impl Sets {
-    /// No record.
-    pub(crate) fn new(alloc: Global) -> Sets
+impl ZoneBuilder {
+    /// A builder that holds no record.
+    pub fn new(alloc: Global) -> ZoneBuilder
         ensures { result ≡ [] }
     {
         // With no record it may be any class.
         let Some(class) = Class::of_number(1) else {
             unreachable!();
         };
-        Sets {
+        ZoneBuilder {
             class,
             base: Name::root(),
             octets: Vec::new(alloc),
@@ -75,7 +73,7 @@ impl Sets {
         }
     }
 
-    /// The sets of entries in canonical order, whose records take so many octets in messages.
+    /// The builder of entries in canonical order, whose records take so many octets in messages.
     /// `alone` tells whether the octets keep these records alone.
     ///
     /// # Errors
@@ -89,11 +87,11 @@ impl Sets {
         entries: Vec<Entry>,
         message_len: u64,
         alone: bool,
-    ) -> Result<Sets, AllocError>
+    ) -> Result<ZoneBuilder, AllocError>
         requires { KeepsSets class base octets.items entries.items message_len alone }
-        ensures { IfOk result (λ sets. sets ≡ all_records class octets.items entries.items) }
+        ensures { IfOk result (λ builder. builder ≡ all_records class octets.items entries.items) }
     {
-        Ok(Sets {
+        Ok(ZoneBuilder {
             class,
             base,
             octets,
@@ -116,11 +114,12 @@ impl Sets {
     pub(crate) fn unordered(&self) -> UnorderedRecords<'_>
         ensures { IsPermutation result self.now }
     {
-        if self.alone {
-            let kept = KeptRecords::new(self.class, self.octets.as_slice());
-            return UnorderedRecords::kept(kept);
-        }
-        UnorderedRecords::sorted(self.iter())
+        let left = if self.alone {
+            Left::Kept(KeptRecords::new(self.class, self.octets.as_slice()))
+        } else {
+            Left::Sorted(self.iter())
+        };
+        UnorderedRecords { left }
     }
 
     /// How many records there are, or 2^64 - 1 where there are more.
@@ -176,30 +175,31 @@ impl Sets {
         Some(record_at(self.class, self.octets.as_slice(), entry.at))
     }
 
-    /// Takes a record. An equal one is dropped.
+    /// Takes a borrowed record of a place. An equal one is dropped.
     ///
     /// # Errors
     ///
     /// The first reason against it: class, then SOA, then TTL; or want of memory. Nothing is
     /// changed.
-    pub(crate) fn add(&mut self, rr: &RrRef<'_>) -> Result<(), Refusal>
-        requires { IsRecord (record_of rr.now) }
+    pub(crate) fn hold(&mut self, rr: &RrRef<'_>, place: Place) -> Result<(), Stop>
         ensures accepted { OnOk result (Accepts self.old (record_of rr.now)) }
         ensures taken { OnOk result (Adds self.old (record_of rr.now) self.new) }
-        ensures refused { IfErr result (IsRefusal self.old (record_of rr.now)) }
+        ensures refused { IfErr result
+            (StopsAdd self.old (record { rr = record_of rr.now; place = place })) }
         ensures unchanged { OnErr result (self.new ≡ self.old) }
     {
+        rr.known();
         if self.has_other_class(rr) {
-            return Err(Refusal::OtherClass);
+            return Err(Stop::Refused(Fault::ClassMismatch, place));
         }
         if self.has_other_soa(rr) {
-            return Err(Refusal::OtherSoa);
+            return Err(Stop::Refused(Fault::MultipleSoa, place));
         }
         // Nothing is known of octets to which one record after another is added.
         self.alone = false;
         self.class = rr.class;
         settle_base(&mut self.base, &self.entries, &rr.owner);
-        let is_new = put(&mut self.entries, &mut self.octets, &self.base, rr)?;
+        let is_new = put(&mut self.entries, &mut self.octets, &self.base, rr, place)?;
         self.message_len = octets_with(self.message_len, rr, is_new);
         Ok(())
     }

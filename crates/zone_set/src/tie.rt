@@ -1,4 +1,4 @@
-ghost use Rattle.std.specs.Prelude.{◌≡◌, drop};
+ghost use Rattle.std.specs.Prelude.{◌≡◌};
 ghost use Rattle.zone_set.specs.Machine.Bulk as bulk;
 
 use crate::entry::Entry;
@@ -61,22 +61,13 @@ pub(crate) fn is_repeat(octets: &[u8], a: &Entry, b: &Entry) -> bool
 pub(crate) fn span(octets: &[u8], at: usize) -> &[u8]
     ensures { result.now ≡ bulk.span octets.now at }
 {
-    let from = from(octets, at);
+    let Some((_, from)) = octets.split_at_checked(at) else {
+        return &octets[..0];
+    };
     let Some((head, _)) = from.split_first_chunk::<9>() else {
         return from;
     };
     let [_, _, _, _, _, _, owner_len, d0, d1] = *head;
     let len = 9 + owner_len as usize + u16::from_be_bytes([d0, d1]) as usize;
     if len > from.len() { from } else { &from[..len] }
-}
-
-/// The octets from a place on, if there are any.
-fn from(octets: &[u8], at: usize) -> &[u8]
-    ensures { result.now ≡ drop at octets.now }
-{
-    if at > octets.len() {
-        &octets[..0]
-    } else {
-        &octets[at..]
-    }
 }

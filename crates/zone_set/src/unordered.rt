@@ -6,12 +6,12 @@ use zone_rdata::RrRef;
 /// The records of a zone that are left, in an order that isn't told.
 #[derive(Drop)]
 pub struct UnorderedRecords<'z> {
-    left: Left<'z>,
+    pub(crate) left: Left<'z>,
 }
 
 /// Where the records come from.
 #[derive(Drop)]
-enum Left<'z> {
+pub(crate) enum Left<'z> {
     /// The octets that keep them, which are passed over from the first to the last.
     Kept(KeptRecords<'z>),
     /// The entries, in canonical order.
@@ -26,28 +26,6 @@ impl<'z> Model for UnorderedRecords<'z> {
     ghost Value = { List Record };
 
     ghost view = { λ u. left_records u.left };
-}
-
-impl<'z> UnorderedRecords<'z> {
-    ghost use Rattle.std.specs.Prelude.{◌≡◌};
-
-    /// Records as octets keep them.
-    pub(crate) fn kept(records: KeptRecords<'z>) -> UnorderedRecords<'z>
-        ensures { result ≡ records.entry }
-    {
-        UnorderedRecords {
-            left: Left::Kept(records),
-        }
-    }
-
-    /// Records in canonical order.
-    pub(crate) fn sorted(records: Records<'z>) -> UnorderedRecords<'z>
-        ensures { result ≡ records.entry }
-    {
-        UnorderedRecords {
-            left: Left::Sorted(records),
-        }
-    }
 }
 
 impl<'z> Iterator for UnorderedRecords<'z> {

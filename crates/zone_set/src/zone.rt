@@ -4,7 +4,7 @@ ghost use Rattle.zone_set.specs.Message.{message_octets};
 ghost use Rattle.zone_set.specs.Zone.{IsZone};
 
 use crate::records::Records;
-use crate::sets::Sets;
+use crate::sets::ZoneBuilder;
 use crate::unordered::UnorderedRecords;
 use std::marker::Model;
 use zone_name::Name;
@@ -15,7 +15,7 @@ use zone_rdata::Class;
 pub struct Zone {
     pub(crate) apex: Name,
     pub(crate) class: Class,
-    pub(crate) sets: Sets,
+    pub(crate) sets: ZoneBuilder,
 }
 
 impl Model for Zone {

@@ -1,11 +1,13 @@
 -- A record and the sets that are held: why it is refused, and what is held with it.
-use Rattle.zone_set.proofs.Common.{AllByRecursion, Bool, Entry, Has, HoldsEntries, IsEntry, IsPut, IsRecord, IsTrue, KeepsSets, List, OnErr, Placed, Record, Result, [], all_records, arith, common_steps, entry_record, eq-eqb, false, if◌then◌else◌, inl, inr, message_len, message_octets, min, ne_eqb, not, refl, ℕ, ◌+◌, ◌-◌, ◌==◌, ◌^◌, ◌↔◌, ◌∷◌, ◌≡◌, ◌≢◌, ◌⊎◌}
+use Rattle.zone_set.proofs.Common.{AllByRecursion, Bool, Entry, Has, HoldsEntries, IsEntry, IsPut, IsRecord, IsTrue, KeepsSets, List, OnErr, Record, Result, [], all_records, arith, common_steps, entry_record, eq-eqb, false, if◌then◌else◌, inl, inr, message_len, message_octets, min, ne_eqb, not, refl, ⊎_elim, ℕ, ◌+◌, ◌-◌, ◌==◌, ◌^◌, ◌↔◌, ◌∷◌, ◌≡◌, ◌≢◌, ◌⊎◌}
 use Rattle.zone_set.proofs.Ordering.Between.{Has-with}
 use Rattle.zone_set.proofs.Holding.Inserting.{AreCompatible-with}
 use Rattle.zone_set.proofs.Holding.Together.{each_Has, stable_number}
 use Rattle.zone_set.specs.Builder.{OtherClass, OtherSoa, OtherTtl, Accepts, Adds, StopsAdd, fault, memory, ttl as by_ttl}
-use Rattle.zone_set.specs.Machine.Refusal.{IsRefusal, IsSetRefusal, stop_for}
-use Rattle.zone_set.specs.declared.refusal.Refusal.{Refusal}
+use Rattle.zone_rdata.specs.declared.fault.Fault.TheVariants.{DifferingTtl}
+use Rattle.zone_rdata.specs.declared.fault.Place.{Place}
+use Rattle.zone_rdata.specs.declared.fault.Stop.{Stop}
+use Rattle.zone_rdata.specs.declared.fault.Stop.TheVariants.{Memory, Refused}
 
 -- all records of entries are of the class
 pub classes : (class : ℕ) (octets : List ℕ) (es : List Entry) → AllByRecursion (λ r. r.class ≡ class) (all_records class octets es)
@@ -51,8 +53,8 @@ module _ {class : ℕ} {base : List (List ℕ)} {octets : List ℕ} {es : List E
   pub seen : all_records r.class octets es ≡ Old
   seen = same_records class r.class octets es (one_class class octets es r no_class)
 
-  pub refused_put : (e : Refusal) → IsSetRefusal (all_records r.class octets es) r e → IsRefusal Old r e
-  refused_put e why = grind (arith, seen, by_ttl)
+  pub refused_put : (stop : Stop) (place : Place) → (stop ≡ Memory) ⊎ ((stop ≡ Refused DifferingTtl place) × OtherTtl (all_records r.class octets es) r) → StopsAdd Old (record { rr = r; place = place }) stop
+  refused_put stop place why = ⊎_elim (λ is. rw is memory) (λ is. rw is.0 (fault DifferingTtl (by_ttl no_class no_soa (rw seen at is.1)))) why
 
   -- where memory was refused, the records are as before
   pub KeepsSets-unchanged : (name : List (List ℕ)) (now : List ℕ) (fs : List Entry) → AllByRecursion (IsEntry name r.class now) fs → all_records r.class now fs ≡ all_records r.class octets es → KeepsSets r.class name now fs counted false
@@ -77,7 +79,3 @@ module _ {class : ℕ} {base : List (List ℕ)} {octets : List ℕ} {es : List E
       counts = octets_counted (message_octets Old) (message_octets New) (if is_new then message_len r else 0) counted after keeps.counts (octets_put Old r is_new New was_put) is_after;
       kept = λ is. cc;
     }
-
--- the stop for a record that is handed back
-pub stops_add : (held : List Record) (p : Placed) (e : Refusal) → IsRefusal held p.rr e → StopsAdd held p (stop_for e p.place)
-stops_add held p e why = grind (arith, fault, memory)

@@ -20,12 +20,12 @@ of_sorted-requires g c = record {
   kept = λ all. alone_kept _ _ _ c.requires.1.1 (c.settle.ensures.whole (omega (arith, eqb-true _ _ all, c.len.ensures, c.len-listed.ensures, c.args.entries.ok, c.settle.new.entries.ok)));
 }
 
-pub returns-in_err-sets-clause-refused : goal.returns-in_err-sets-clause-refused
-returns-in_err-sets-clause-refused g c =
+pub returns-in_err-held-clause-refused : goal.returns-in_err-held-clause-refused
+returns-in_err-held-clause-refused g c =
     let told = err_from_is_err_and c.from_residual.result c.from_residual.ensures.1 in
     rw (told.1, told.2) memory
 
 pub returns-then-settle-clause-taken : goal.returns-then-settle-clause-taken
 returns-then-settle-clause-taken g c =
-    rw c.requires.1.0 (IsSettledAs-sorted c.args.class c.args.base c.args.octets.items c.args.entries.items c.settle.new.entries.items c.args.places c.in_ok-sets.sets c.requires.1.1
-    (rw c.as_slice.ensures.value at c.settle.ensures.same) (rw c.as_slice.ensures.value at (c.if-settle.ensures.compatible refl)) c.in_ok-sets.ensures)
+    rw c.requires.1.0 (IsSettledAs-sorted c.args.class c.args.base c.args.octets.items c.args.entries.items c.settle.new.entries.items c.args.places c.in_ok-held.held c.requires.1.1
+    (rw c.as_slice.ensures.value at c.settle.ensures.same) (rw c.as_slice.ensures.value at (c.if-settle.ensures.compatible refl)) c.in_ok-held.ensures)

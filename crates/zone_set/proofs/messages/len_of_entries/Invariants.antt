@@ -1,4 +1,12 @@
+use Rattle.zone_set.proofs.Common.{AllByRecursion, IsEntry, all_records, length, message_octets, min, ◌+◌, ◌-◌, ◌^◌, ◌≡◌, ◌≤◌}
 use Rattle.zone_set.proofs.messages.len_of_entries.Given as goal
 
-abbrev pub ghost-counted : goal.ghost-counted
-ghost-counted g a = g.base
+-- what was counted and what the entries that are left count are the whole
+abbrev pub invariant-loop-entry : goal.invariant-loop-entry
+invariant-loop-entry g l =
+    AllByRecursion (IsEntry g.base l.class l.octets) l.left
+    × (l.message_len ≤ 2 ^ 64 - 1)
+    × (min (l.message_len + message_octets (all_records l.class l.octets l.left)) (2 ^ 64 - 1) ≡ min (message_octets (all_records l.class l.octets l.fn.entries)) (2 ^ 64 - 1))
+
+abbrev pub decreases-loop-entry : goal.decreases-loop-entry
+decreases-loop-entry g l = length l.left

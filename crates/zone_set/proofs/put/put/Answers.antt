@@ -1,4 +1,4 @@
-use Rattle.zone_set.proofs.Common.{◌≡◌, ℕ, List, [], ◌∷◌, ◌++◌, map, MatchOption, refl, sym, ap, ◌∙◌, subst, arith, AllByRecursion, IfSome, AllByRecursion-back, AllByRecursion-front, Record, OtherTtl, all_records, entry_record, HasOtherTtl, HoldsEntries, IsComparable, IsEntry, stored, Ascends, record_of, Has, Entry}
+use Rattle.zone_set.proofs.Common.{err_from_is_err_and, inl, inr, ◌≡◌, ℕ, List, [], ◌∷◌, ◌++◌, map, MatchOption, refl, sym, ap, ◌∙◌, subst, arith, AllByRecursion, IfSome, AllByRecursion-back, AllByRecursion-front, Record, OtherTtl, all_records, entry_record, HasOtherTtl, HoldsEntries, IsComparable, IsEntry, stored, Ascends, record_of, Has, Entry}
 use Rattle.sorted_chunks.specs.Chunks.{after, before, joined}
 use Rattle.zone_set.proofs.Holding.Adding.{on_err}
 use Rattle.zone_set.proofs.Ordering.Between.{copied, first_has, first_neighbour, last_has, last_neighbour, one_ttl, told_by, Ascends-between, IsNeighbour, Parts}
@@ -7,8 +7,8 @@ use Rattle.zone_set.proofs.Storage.Storing.{each_kept, records_kept}
 use Rattle.zone_set.proofs.put.put.Goals as goal
 use Rattle.zone_set.proofs.put.put.Goals.{After-copied-first}
 
-pub place_of-place-requires : goal.place_of-place-requires
-place_of-place-requires c = (
+pub place_of-position-requires : goal.place_of-position-requires
+place_of-position-requires c = (
   omega arith,
   rw c.as_slice.ensures.value (all_comparable c.args.base.now c.args.octets.now.items (record_of c.args.rr.now) c.hint_of-hint.result c.requires.whole c.hint_of-hint.ensures (joined c.args.entries.now) c.requires.holds.each),
 )
@@ -18,10 +18,10 @@ moved : (c : After-copied-first) (P : List ℕ → Type 0) → P c.as_slice.resu
 moved c P holds = subst P c.as_slice.ensures.value holds
 
 abbrev first_part : After-copied-first → List Entry
-first_part c = before c.args.entries.now c.place_of-place.result
+first_part c = before c.args.entries.now c.place_of-position.result
 
 abbrev last_part : After-copied-first → List Entry
-last_part c = after c.args.entries.now c.place_of-place.result
+last_part c = after c.args.entries.now c.place_of-position.result
 
 abbrev record_for : After-copied-first → Entry → Record
 record_for c = entry_record c.args.rr.now.class c.as_slice.result.now
@@ -30,7 +30,7 @@ holds : (c : After-copied-first) → HoldsEntries c.args.base.now c.args.rr.now.
 holds c = rw c.as_slice.ensures.value c.requires.holds
 
 parts : (c : After-copied-first) → Parts (all_records c.args.rr.now.class c.as_slice.result.now (joined c.args.entries.now)) (map (record_for c) (first_part c)) (map (record_for c) (last_part c)) (record_of c.args.rr.now)
-parts c = parts_at c.args.base.now c.as_slice.result.now (record_of c.args.rr.now) (joined c.args.entries.now) (first_part c) (last_part c) (holds c) c.place_of-place.ensures.whole c.place_of-place.ensures.parts
+parts c = parts_at c.args.base.now c.as_slice.result.now (record_of c.args.rr.now) (joined c.args.entries.now) (first_part c) (last_part c) (holds c) c.place_of-position.ensures.whole c.place_of-position.ensures.parts
 
 last_is : (c : After-copied-first) → MatchOption c.copied-last.result (first_part c ≡ []) (λ e. (front : List Entry) × (first_part c ≡ front ++ e ∷ []))
 last_is c = copied (first_part c ≡ []) (λ e. (front : List Entry) × (first_part c ≡ front ++ e ∷ [])) c.last_before.result c.copied-last.result c.copied-last.ensures c.last_before.ensures
@@ -42,7 +42,7 @@ abbrev Comparable : After-copied-first → Entry → Type 0
 Comparable c = IsComparable c.as_slice.result.now c.hint_of-hint.result (record_of c.args.rr.now)
 
 comparable : (c : After-copied-first) → AllByRecursion (Comparable c) (first_part c ++ last_part c)
-comparable c = rw c.place_of-place.ensures.whole (each_comparable c.args.base.now c.as_slice.result.now (record_of c.args.rr.now) c.hint_of-hint.result c.requires.whole c.hint_of-hint.ensures (joined c.args.entries.now) (holds c).each)
+comparable c = rw c.place_of-position.ensures.whole (each_comparable c.args.base.now c.as_slice.result.now (record_of c.args.rr.now) c.hint_of-hint.result c.requires.whole c.hint_of-hint.ensures (joined c.args.entries.now) (holds c).each)
 
 first_comparable : (c : After-copied-first) → IfSome c.copied-first.result (Comparable c)
 first_comparable c = first_has (Comparable c) (last_part c) (AllByRecursion-back (Comparable c) (first_part c) (last_part c) (comparable c)) c.copied-first.result (first_is c)
@@ -71,13 +71,23 @@ pub returns-then-is_of_other_ttl-clause-refused : goal.returns-then-is_of_other_
 returns-then-is_of_other_ttl-clause-refused c =
     let p = (goal.at.returns-then-is_of_other_ttl-clause-refused c).After-copied-first in
     let found = told_by (record_for p) (held p) (first_part p) (record_of c.args.rr.now) (λ e. HasOtherTtl (record_for p e) (record_of c.args.rr.now)) c.copied-last.result (near_last p) c.is_of_other_ttl.result c.is_of_other_ttl.ensures c.if-is_of_other_ttl.true in
-    moved p (λ octs. OtherTtl (all_records c.args.rr.now.class octs (joined c.args.entries.now)) (record_of c.args.rr.now)) (record_for p found.0, found.1, found.2.0, found.2.1)
+    inr (refl, moved p (λ octs. OtherTtl (all_records c.args.rr.now.class octs (joined c.args.entries.now)) (record_of c.args.rr.now)) (record_for p found.0, found.1, found.2.0, found.2.1))
 
 pub returns-then-is_of_other_ttl-2-clause-refused : goal.returns-then-is_of_other_ttl-2-clause-refused
 returns-then-is_of_other_ttl-2-clause-refused c =
     let p = (goal.at.returns-then-is_of_other_ttl-2-clause-refused c).After-copied-first in
     let found = told_by (record_for p) (held p) (last_part p) (record_of c.args.rr.now) (λ e. HasOtherTtl (record_for p e) (record_of c.args.rr.now)) c.copied-first.result (near_first p) c.is_of_other_ttl-2.result c.is_of_other_ttl-2.ensures c.if-is_of_other_ttl-2.true in
-    moved p (λ octs. OtherTtl (all_records c.args.rr.now.class octs (joined c.args.entries.now)) (record_of c.args.rr.now)) (record_for p found.0, found.1, found.2.0, found.2.1)
+    inr (refl, moved p (λ octs. OtherTtl (all_records c.args.rr.now.class octs (joined c.args.entries.now)) (record_of c.args.rr.now)) (record_for p found.0, found.1, found.2.0, found.2.1))
+
+pub returns-in_err-at-clause-refused : goal.returns-in_err-at-clause-refused
+returns-in_err-at-clause-refused c =
+    let told = err_from_is_err_and c.from_residual.result c.from_residual.ensures.1 in
+    rw (told.1, told.2) (inl refl)
+
+pub returns-in_err-insert-clause-refused : goal.returns-in_err-insert-clause-refused
+returns-in_err-insert-clause-refused c =
+    let told = err_from_is_err_and c.from_residual-in_err-insert.result c.from_residual-in_err-insert.ensures.1 in
+    rw (told.1, told.2) (inl refl)
 
 pub returns-then-is_equal-clause-told : goal.returns-then-is_equal-clause-told
 returns-then-is_equal-clause-told c =
@@ -114,13 +124,13 @@ pub returns-clause-each : goal.returns-clause-each
 returns-clause-each c =
     let p = (goal.at.returns-clause-each c).After-copied-first in
     each_put c.args.base.now c.args.octets.now.items (record_of c.args.rr.now) (joined c.args.entries.now) (first_part p) (last_part p) (joined c.insert.new.self) (record { hint = c.hint_of-hint.result; at = c.in_ok-at.at }) c.append.new.octets.items
-    c.requires.holds c.place_of-place.ensures.whole c.requires.whole c.in_ok-at.ensures.place c.in_ok-at.ensures.appended c.in_ok-insert.ensures.taken c.hint_of-hint.ensures
+    c.requires.holds c.place_of-position.ensures.whole c.requires.whole c.in_ok-at.ensures.place c.in_ok-at.ensures.appended c.in_ok-insert.ensures.taken c.hint_of-hint.ensures
 
 pub returns-clause-told : goal.returns-clause-told
 returns-clause-told c =
     let p = (goal.at.returns-clause-told c).After-copied-first in
     let agree = one_ttl (record_for p) (first_part p) (last_part p) (parts p) c.copied-last.result c.copied-first.result (near_last p) (near_first p) c.is_of_other_ttl.result c.is_of_other_ttl-2.result c.is_of_other_ttl.ensures c.if-is_of_other_ttl.false c.is_of_other_ttl-2.ensures c.if-is_of_other_ttl-2.false in
     was_put c.args.base.now c.args.octets.now.items (record_of c.args.rr.now) (joined c.args.entries.now) (first_part p) (last_part p) (joined c.insert.new.self) (record { hint = c.hint_of-hint.result; at = c.in_ok-at.at }) c.append.new.octets.items
-    c.requires.holds c.place_of-place.ensures.whole c.requires.whole c.in_ok-at.ensures.place c.in_ok-at.ensures.appended c.in_ok-insert.ensures.taken
+    c.requires.holds c.place_of-position.ensures.whole c.requires.whole c.in_ok-at.ensures.place c.in_ok-at.ensures.appended c.in_ok-insert.ensures.taken
     (moved p (λ octs. Ascends (map (entry_record c.args.rr.now.class octs) (first_part p) ++ record_of c.args.rr.now ∷ map (entry_record c.args.rr.now.class octs) (last_part p)))
     (Ascends-between (record_for p) (first_part p) (last_part p) (parts p) agree c.copied-first.result (first_is p) c.is_equal.result c.is_equal.ensures c.if-is_equal.false))

@@ -18,12 +18,12 @@ record_at-rr-requires-clause-whole c =
 
 pub invariant_of-self : goal.invariant_of-self
 invariant_of-self c =
-    let p = passed _ _ _ c.self.invariant.0 _ c.self.invariant.1 (some_left _ _ c.is_empty.ensures c.if-is_empty.false) c.record_at-rr.ensures c.after_first-self-inside.ensures in
+    let p = passed _ _ _ c.self.invariant.0 _ c.self.invariant.1 (some_left _ _ c.is_empty.ensures c.if-is_empty.false) c.record_at-rr.ensures (rw c.span.ensures at c.split_at.ensures.back) in
     (p.0, p.1)
 
 pub returns-clause-steps : goal.returns-clause-steps
 returns-clause-steps c =
-    let p = passed _ _ _ c.self.invariant.0 _ c.self.invariant.1 (some_left _ _ c.is_empty.ensures c.if-is_empty.false) c.record_at-rr.ensures c.after_first-self-inside.ensures in
+    let p = passed _ _ _ c.self.invariant.0 _ c.self.invariant.1 (some_left _ _ c.is_empty.ensures c.if-is_empty.false) c.record_at-rr.ensures (rw c.span.ensures at c.split_at.ensures.back) in
     sym c.self.view_is ∙ p.2
 
 pub returns-clause-goes : goal.returns-clause-goes

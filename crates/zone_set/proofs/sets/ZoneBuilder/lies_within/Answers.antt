@@ -1,7 +1,7 @@
 use Rattle.zone_set.proofs.Common.{◌≡◌, true, false, List, [], ◌∷◌, ◌++◌, MatchOption, sym, ◌∙◌, subst, AllByRecursion, IsWithin, Record, record_of, AreCompatible}
 use Rattle.zone_set.proofs.Ordering.Interval.{ends_tell}
-use Rattle.zone_set.proofs.sets.Sets.lies_within.Goals as goal
-use Rattle.zone_set.proofs.sets.Sets.lies_within.Goals.{then-is_none_outside, else-is_none_outside}
+use Rattle.zone_set.proofs.sets.ZoneBuilder.lies_within.Goals as goal
+use Rattle.zone_set.proofs.sets.ZoneBuilder.lies_within.Goals.{then-is_none_outside, else-is_none_outside}
 
 pub returns-then-is_none_outside-2 : goal.returns-then-is_none_outside-2
 returns-then-is_none_outside-2 c is =

@@ -1,6 +1,6 @@
 use Rattle.zone_set.proofs.Common.{◌≡◌, true, false, sym, ◌∙◌, record_of}
 use Rattle.zone_set.proofs.Holding.Finishing.{Walks-start, Walks-more, Walks-found}
-use Rattle.zone_set.proofs.sets.Sets.first_outside.Goals as goal
+use Rattle.zone_set.proofs.sets.ZoneBuilder.first_outside.Goals as goal
 
 pub loop-rr-init : goal.loop-rr-init
 loop-rr-init c = record {

@@ -1,5 +1,5 @@
 use Rattle.zone_set.proofs.Holding.Finishing.{Walks}
-use Rattle.zone_set.proofs.sets.Sets.first_outside.Given as goal
+use Rattle.zone_set.proofs.sets.ZoneBuilder.first_outside.Given as goal
 
 -- the records that are left tell of the whole
 abbrev pub invariant-loop-rr : goal.invariant-loop-rr

@@ -1,11 +1,10 @@
-use Rattle.zone_set.proofs.Common.{refl, sym, subst, ◌∙◌, false≢true, NoSoa, Whole, Refused, StopsFinish, record_of}
+use Rattle.zone_set.proofs.Common.{refl, sym, ◌∙◌, false≢true, record_of}
 use Rattle.zone_set.proofs.Holding.Finishing.{IsZone-from_parts, stops_without_soa}
-use Rattle.zone_set.proofs.builder.ZoneBuilder.finish.Goals as goal
+use Rattle.zone_set.proofs.sets.ZoneBuilder.finish.Goals as goal
 
 pub returns-then-not-is_soa-clause-stopped : goal.returns-then-not-is_soa-clause-stopped
 returns-then-not-is_soa-clause-stopped c =
-    subst (λ held. StopsFinish held (Refused NoSoa Whole)) c.self.view_is
-    (stops_without_soa _ (record_of c.in-Some.first) _ c.iter.ensures.compatible (sym c.iter.ensures.records ∙ c.in-Some.ensures.steps) (λ same. false≢true (c.if-not-is_soa.ensures.1 same)))
+    stops_without_soa _ (record_of c.in-Some.first) _ c.iter.ensures.compatible (sym c.iter.ensures.records ∙ c.in-Some.ensures.steps) (λ same. false≢true (c.if-not-is_soa.ensures.1 same))
 
 pub invariant_of-result : goal.invariant_of-result
 invariant_of-result c =

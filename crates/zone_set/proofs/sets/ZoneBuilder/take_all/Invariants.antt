@@ -1,6 +1,6 @@
 use Rattle.zone_set.proofs.Common.{AddsEach, length, ◌≡◌}
 use Rattle.zone_set.proofs.Lists.Taking.{HasTaken}
-use Rattle.zone_set.proofs.builder.ZoneBuilder.take_all.Given as goal
+use Rattle.zone_set.proofs.sets.ZoneBuilder.take_all.Given as goal
 
 -- some first records of the source were taken, and nothing else of it changed
 abbrev pub invariant-loop-placed : goal.invariant-loop-placed

@@ -1,6 +1,6 @@
 use Rattle.zone_set.proofs.Common.{sym, ◌∙◌, false≢true, joined, record_of}
 use Rattle.zone_set.proofs.Holding.Adding.{other_class_told}
-use Rattle.zone_set.proofs.sets.Sets.has_other_class.Goals as goal
+use Rattle.zone_set.proofs.sets.ZoneBuilder.has_other_class.Goals as goal
 
 pub returns : goal.returns
 returns c =

@@ -1,7 +1,7 @@
 use Rattle.zone_set.proofs.Common.{Some, joined, IsEntry, IsLinked}
 use Rattle.zone_set.proofs.Ordering.Between.{last_has}
-use Rattle.zone_set.proofs.sets.Sets.last.Goals as goal
-use Rattle.zone_set.proofs.sets.Sets.last.Goals.{After-as_slice}
+use Rattle.zone_set.proofs.sets.ZoneBuilder.last.Goals as goal
+use Rattle.zone_set.proofs.sets.ZoneBuilder.last.Goals.{After-as_slice}
 
 -- the last entry's record stands where it says
 linked : (c : After-as_slice) → IsLinked c.self.inside.class c.as_slice.result.now c.in_ok-entry.entry.now

@@ -1,6 +1,6 @@
 use Rattle.std.proofs.Common.{refl, sym, ◌∙◌, ap, Ok}
 use Rattle.zone_set.proofs.Lists.Taking.{AddsEach-push, HasTaken-start, HasTaken-more, StopsTaking-at_end, StopsTaking-refused}
-use Rattle.zone_set.proofs.builder.ZoneBuilder.take_all.Goals as goal
+use Rattle.zone_set.proofs.sets.ZoneBuilder.take_all.Goals as goal
 
 pub loop-placed-init : goal.loop-placed-init
 loop-placed-init g c = (HasTaken-start _ _ refl, refl)

@@ -1,6 +1,6 @@
 use Rattle.zone_set.proofs.Common.{◌≡◌, true, sym, ◌∙◌, subst, ◌↔◌, OtherSoa, record_of, AreCompatible}
 use Rattle.zone_set.proofs.Holding.Together.{decides_other, one_soa, other_soa}
-use Rattle.zone_set.proofs.sets.Sets.has_other_soa.Goals as goal
+use Rattle.zone_set.proofs.sets.ZoneBuilder.has_other_soa.Goals as goal
 
 pub returns-in-Some : goal.returns-in-Some
 returns-in-Some c =
