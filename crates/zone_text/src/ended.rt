@@ -1,14 +1,13 @@
 //! The entries that were ended, read one by one (RFC 1035 5.1).
-ghost use Rattle.std.specs.Prelude.{◌≡◌, ◌+◌, ◌<◌, ◌^◌, ◌==◌, [], count_by, length, map, OnOk, Some, None};
+ghost use Rattle.std.specs.Prelude.{◌≡◌, ◌+◌, ◌<◌, ◌^◌, ◌==◌, count_by, length, map, OnOk, None};
 ghost use Rattle.zone_rdata.specs.Item.{raw};
-ghost use Rattle.zone_text.specs.ParserState.{IsStateAfter};
 ghost use Rattle.zone_text.specs.Machine.Feeding.{ReadsOctets};
 ghost use Rattle.zone_text.specs.Kept.{KeepsItems};
 
 use crate::parser_state::ParserState;
-use std::alloc::{AllocError, Global};
-use zone_name::Name;
-use zone_rdata::{Fault, Item, PendingRecords, Place};
+use crate::statements::statement_of;
+use std::alloc::AllocError;
+use zone_rdata::{Item, PendingRecords, Place};
 
 /// What was read of the entries that were ended.
 #[derive(Drop)]
@@ -22,20 +21,6 @@ pub(crate) struct EndedEntries {
 }
 
 impl EndedEntries {
-    /// No entry yet, under the origin that is handed in with the file.
-    pub(crate) fn new(alloc: Global, origin: &Name) -> EndedEntries
-        ensures records { result.decided.placed ≡ [] }
-        ensures ending { result.decided.ending ≡ None }
-        ensures state { IsStateAfter origin.now [] result.state }
-        ensures line { result.line ≡ 1 }
-    {
-        EndedEntries {
-            decided: PendingRecords::new(alloc),
-            state: ParserState::new(alloc, origin),
-            line: 1,
-        }
-    }
-
     /// Reads the entry after them, of which these are the items and the number of its line feeds.
     pub(crate) fn read<'t>(
         &mut self,
@@ -50,18 +35,9 @@ impl EndedEntries {
             → OnOk result (ReadsOctets entry.now self.old self.new) }
     {
         let place = Place::Line(self.line);
-        self.state.read(entry, items, place, &mut self.decided)?;
+        self.state
+            .read(statement_of(entry, items), place, &mut self.decided)?;
         self.line += lines as u64;
         Ok(())
-    }
-
-    /// Decides the fault of the entry after them.
-    pub(crate) fn refuse(&mut self, fault: Fault)
-        ensures records { self.new.decided.placed ≡ self.old.decided.placed }
-        ensures ending { self.new.decided.ending
-            ≡ Some (record { 0 = fault; 1 = Place.Line self.old.line }) }
-        ensures line { self.new.line ≡ self.old.line }
-    {
-        self.decided.ending = Some((fault, Place::Line(self.line)));
     }
 }

@@ -1,13 +1,12 @@
 //! What other tools on master files stand on: the entry at the front of octets, an entry's items,
 //! and the tokens of a text, one by one (RFC 1035 5.1).
-ghost use Rattle.std.specs.Prelude.{◌≡◌, ◌<◌, ◌==◌, ◌||◌, [], ◌∷◌, List, count_by, map, length, IfNone, IfOk, IfSome, OnErr, OnOk, option_map, option_to_list};
+ghost use Rattle.std.specs.Prelude.{◌≡◌, ◌<◌, ◌==◌, ◌||◌, [], ◌∷◌, List, map, length, IfNone, IfOk, IfSome, OnErr, OnOk, option_map, option_to_list};
 ghost use Rattle.zone_rdata.specs.Item.{raw};
 ghost use Rattle.zone_text.specs.Entries.{item_of};
 ghost use Rattle.zone_text.specs.FirstEntry.{FirstIs};
 ghost use Rattle.zone_text.specs.Kept.{KeepsItems};
 ghost use Rattle.zone_text.specs.Tokens.{Token, AreTokensOf, is_blank};
 
-use crate::feeds::line_feeds;
 use crate::items::{is_blank, keep};
 use crate::stops::Stops;
 use crate::token::{Span, item_of, token_span};
@@ -57,29 +56,6 @@ pub fn first_entry<'t>(
     found
 }
 
-/// As `entry_items`, and gives the number of line feeds. After `AllocError` `items` holds nothing
-/// that is used again.
-pub(crate) fn cut_entry<'t>(entry: &'t [u8], items: &mut Vec<Item<'t>>) -> Result<usize, AllocError>
-    ensures kept { OnOk result (KeepsItems entry.now (map raw items.new.items)) }
-    ensures feeds { IfOk result (λ feeds. feeds ≡ count_by (λ c. c == 10) entry.now) }
-{
-    if let Reached::Ends(len, feeds) = walk(entry, &mut Stops::unseen(entry), items)? {
-        if len == entry.len() {
-            return Ok(feeds);
-        }
-    }
-    // No line feed ends it.
-    items.clear();
-    let mut rest = entry;
-    while let Some((item, after)) = first_token(rest) {
-        if let Some(item) = item {
-            keep(item, items)?;
-        }
-        rest = after;
-    }
-    Ok(line_feeds(entry))
-}
-
 /// Puts the items of octets that are cut into tokens, as a whole entry is, in place of what `items`
 /// held: all of them where they are fewer than `MOST_ITEMS`. Of more than that some that are short
 /// enough for a string (255 octets, RFC 1035 3.3) are left out, so that an entry of many items
@@ -93,13 +69,23 @@ pub fn entry_items<'t>(entry: &'t [u8], items: &mut Vec<Item<'t>>) -> Result<(),
     ensures found { OnOk result (KeepsItems entry.now (map raw items.new.items)) }
     ensures emptied { OnErr result (items.new.items ≡ []) }
 {
-    match cut_entry(entry, items) {
-        Ok(_feeds) => Ok(()),
-        Err(refused) => {
+    match first_entry(entry, items)? {
+        FirstEntry::Whole(len) if len == entry.len() => return Ok(()),
+        // No line feed ends it.
+        _ => items.clear(),
+    }
+    let mut rest = entry;
+    while let Some((item, after)) = first_token(rest) {
+        rest = after;
+        let Some(item) = item else {
+            continue;
+        };
+        if let Err(refused) = keep(item, items) {
             items.clear();
-            Err(refused)
+            return Err(refused);
         }
     }
+    Ok(())
 }
 
 /// Whether the octet is a token that is no item: a blank, a parenthesis or a line feed.

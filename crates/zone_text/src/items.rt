@@ -50,12 +50,7 @@ pub(crate) fn plain_bare_len(text: &[u8]) -> usize
     ensures len { result ≡ prefix_len (λ c. not (stops_bare c)) text.now }
     ensures within { result ≤ length text.now }
 {
-    for (index, octet) in text.iter().enumerate() {
-        if stops_bare(*octet) {
-            return index;
-        }
-    }
-    text.len()
+    text.iter().take_while(|octet| !stops_bare(**octet)).count()
 }
 
 /// More items than an entry has that states anything: an owner, a TTL, a class, a type, and data,

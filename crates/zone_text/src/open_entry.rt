@@ -69,9 +69,7 @@ fn len_of(reached: Reached, all: usize) -> usize
 {
     match reached {
         Reached::Open(_) => all,
-        Reached::Ends(len, _) => len,
-        Reached::LostEscape(len) => len,
-        Reached::ClosesNothing(len) => len,
+        Reached::Ends(len, _) | Reached::LostEscape(len) | Reached::ClosesNothing(len) => len,
     }
 }
 
@@ -85,7 +83,7 @@ impl OpenEntry {
         OpenEntry {
             alloc,
             octets: Vec::new(alloc),
-            reached: Reached::Open(At::beginning()),
+            reached: Reached::Open(At::default()),
         }
     }
 
@@ -163,6 +161,6 @@ impl OpenEntry {
         ensures state { self.new.state ≡ Open }
     {
         self.octets.clear();
-        self.reached = Reached::Open(At::beginning());
+        self.reached = Reached::Open(At::default());
     }
 }

@@ -1,25 +1,22 @@
-ghost use Rattle.std.specs.Prelude.{◌≡◌, ℕ, List, [], map, Some, IfErr, OnOk};
-ghost use Rattle.std.specs.List.{flat_map};
+ghost use Rattle.std.specs.Prelude.{◌≡◌, List, [], map, None, Some, IfErr, IfOk, OnOk};
 ghost use Rattle.zone_name.specs.Common.{Labels};
 ghost use Rattle.zone_name.specs.Spelling.{SpellingFault};
 ghost use Rattle.zone_rdata.specs.Cause.{fault_for};
 ghost use Rattle.zone_rdata.specs.Item.{raw};
 ghost use Rattle.zone_text.specs.ParserState.{IsStateAfter};
-ghost use Rattle.zone_text.specs.Entries.{Entry, entry_of, item_of};
+ghost use Rattle.zone_text.specs.Entries.{Entry};
 ghost use Rattle.zone_text.specs.EntryFault.{EntryFault};
 ghost use Rattle.zone_text.specs.Statements.{statement_of, owned};
-ghost use Rattle.zone_text.specs.Tokens.{Token, Cuts};
-ghost use Rattle.zone_text.specs.Machine.EntryReading.{DecidesEntry, LeavesNoRecord, SetsOwner};
+ghost use Rattle.zone_text.specs.Machine.EntryReading.{DecidesEntry, LeavesNoRecord, SetsOwner, one_bare};
 ghost use Rattle.zone_text.specs.Stated.{directive_in, statement_in};
-ghost use Rattle.zone_text.specs.Kept.{AreKept};
 
-mod directive;
 mod record;
 
-use crate::statements::{Directive, Statement, statement_of};
+use crate::statements::{Directive, Statement};
+use crate::words::{split_bare, ttl_in};
 use std::alloc::{AllocError, Global};
 use zone_name::{Name, NameFault};
-use zone_rdata::{Cause, Class, Item, NarrowFailing, PendingRecords, Place, Rdata};
+use zone_rdata::{Cause, Class, Fault, Item, NarrowFailing, PendingRecords, Place, Rdata};
 
 /// What the entries of a master file leave to those after them (RFC 1035 5.1, RFC 2308 4).
 #[derive(Debug, Drop)]
@@ -40,6 +37,22 @@ pub(crate) struct ParserState {
     rdata: Rdata,
 }
 
+/// The text of the one item of a directive.
+///
+/// # Errors
+///
+/// `BadDirective` where there isn't exactly one item or it is quoted.
+fn one_bare<'t>(items: &[Item<'t>]) -> Result<&'t [u8], Cause>
+    ensures found { IfOk result (λ text. one_bare (map raw items.now) ≡ Some text.now) }
+    ensures fault { IfErr result (λ cause. (fault_for cause ≡ Fault.BadDirective)
+        × (one_bare (map raw items.now) ≡ None)) }
+{
+    match split_bare(items) {
+        Some((text, [])) => Ok(text),
+        _ => Err(Cause::BadDirective),
+    }
+}
+
 impl ParserState {
     /// What the first entry of a file finds, under the origin that is handed in with the file.
     pub(crate) fn new(alloc: Global, origin: &Name) -> ParserState
@@ -58,28 +71,10 @@ impl ParserState {
 
     /// Reads the entry after those before it, and takes what it decides into `decided`: the record
     /// that it states, with its place; or its first fault; or nothing, as of a blank entry,
-    /// `$ORIGIN` and `$TTL`. The entry is known to be cut into tokens, and these are kept of its
-    /// items. After a fault the state says nothing.
+    /// `$ORIGIN` and `$TTL`. After a fault the state says nothing.
     // Records and faults hold names, and are wide. So they are written where they go, and not
     // handed up.
-    pub(crate) fn read<'t>(
-        &mut self,
-        entry: &'t [u8],
-        items: &[Item<'t>],
-        place: Place,
-        decided: &mut PendingRecords,
-    ) -> Result<(), AllocError>
-        ensures { (origin : Labels) (before : List Entry) (line : ℕ) (tokens : List Token)
-            → IsStateAfter origin before self.old → Cuts entry.now tokens
-            → AreKept (flat_map item_of tokens) (map raw items.now) → OnOk result
-            (DecidesEntry origin before (entry_of line tokens) place decided.old decided.new
-            self.new) }
-    {
-        self.read_parsed(statement_of(entry, items), place, decided)
-    }
-
-    /// Reads an entry that was parsed.
-    fn read_parsed(
+    pub(crate) fn read(
         &mut self,
         parsed: Statement,
         place: Place,
@@ -101,7 +96,13 @@ impl ParserState {
         }
     }
 
-    /// Follows a directive, which states no record.
+    /// Follows a directive, which states no record: takes the origin of `$ORIGIN` (RFC 1035 5.1) and
+    /// the TTL of `$TTL` (RFC 2308 4).
+    ///
+    /// # Errors
+    ///
+    /// `BadDirective`, the faults of the name of `$ORIGIN`, `BadTtl` for a text that is no time or is
+    /// over 2147483647, and `IncludeDirective` and `UnknownDirective`.
     #[inline(never)]
     fn follow(&mut self, directive: Directive) -> Result<(), Cause>
         ensures found { (origin : Labels) (before : List Entry) (entry : Entry)
@@ -114,8 +115,16 @@ impl ParserState {
             → IfErr result (λ cause. EntryFault origin before entry (fault_for cause)) }
     {
         match directive {
-            Directive::Origin(items) => self.set_origin(items),
-            Directive::Ttl(items) => self.set_default_ttl(items),
+            Directive::Origin(items) => {
+                let text = one_bare(items)?;
+                self.origin = Name::from_text(text, Some(&self.origin))?;
+                Ok(())
+            }
+            Directive::Ttl(items) => {
+                let text = one_bare(items)?;
+                self.default_ttl = Some(ttl_in(text)?);
+                Ok(())
+            }
             Directive::Include => Err(Cause::IncludeDirective),
             Directive::Unknown => Err(Cause::UnknownDirective),
         }

@@ -1,5 +1,5 @@
 //! The parts of a record after its owner, as they are written (RFC 1035 5.1).
-ghost use Rattle.std.specs.Prelude.{◌≡◌, ◌≤◌, ◌∷◌, ◌++◌, List, [], drop, length, map, true, false, None, IfNone, IfSome, IsSomeAnd};
+ghost use Rattle.std.specs.Prelude.{◌≡◌, ◌∷◌, ◌++◌, List, [], map, true, false, None, IfNone, IfSome, IsSomeAnd};
 ghost use Rattle.std.specs.List.{AllByRecursion};
 ghost use Rattle.zone_name.specs.Common.{NothingIs};
 ghost use Rattle.zone_rdata.specs.Item.{RawItem, bare, raw};
@@ -10,7 +10,7 @@ ghost use Rattle.zone_text.specs.Statements.{Word, class, is_class_word, parts_a
 ghost use Rattle.zone_text.specs.Machine.WordTexts.{HaveTexts};
 
 use crate::laws::entry::lower_laws;
-use crate::words::{begins_with_digit, ttl_in};
+use crate::words::{begins_with_digit, split_bare, ttl_in};
 use zone_rdata::{Class, Item};
 
 /// The parts of a record after its owner: `[TTL] [class]` in either order, and the items from the
@@ -26,13 +26,6 @@ pub struct RecordParts<'i, 't> {
     pub rest: &'i [Item<'t>],
 }
 
-/// The texts of the words before a record's type.
-#[derive(Clone, Copy)]
-struct WordTexts<'t> {
-    ttl: Option<&'t [u8]>,
-    class: Option<&'t [u8]>,
-}
-
 /// Whether the text is the word of a class, whether or not zone data can have it.
 fn is_class_word(text: &[u8]) -> bool
     ensures { result ≡ is_class_word text.now }
@@ -44,13 +37,15 @@ fn is_class_word(text: &[u8]) -> bool
     }
 }
 
-impl<'t> WordTexts<'t> {
-    /// The texts with that of one more word. `None`: the item is no word before the type.
+impl<'i, 't> RecordParts<'i, 't> {
+    /// The parts with one more word, and the items after it. `None`: the item is no word before the
+    /// type.
     #[tactic(auto, using(crate::proofs::Heads::WordsLeft::one_more))]
-    fn with(&self, text: &'t [u8]) -> Option<WordTexts<'t>>
+    fn with(&self, text: &'t [u8], rest: &'i [Item<'t>]) -> Option<RecordParts<'i, 't>>
         ensures found { (words : List Word) → HaveTexts words self.now → IfSome result
             (λ next. IsSomeAnd (word_after words (bare text.now))
             (λ word. HaveTexts (words ++ word ∷ []) next)) }
+        ensures rest { IfSome result (λ next. next.rest.now ≡ rest.now) }
         ensures none { (words : List Word) → HaveTexts words self.now
             → IfNone result (word_after words (bare text.now) ≡ None) }
     {
@@ -58,33 +53,20 @@ impl<'t> WordTexts<'t> {
             if self.ttl.is_some() {
                 return None;
             }
-            return Some(WordTexts {
+            return Some(RecordParts {
                 ttl: Some(text),
                 class: self.class,
+                rest,
             });
         }
         if self.class.is_some() || !is_class_word(text) {
             return None;
         }
-        Some(WordTexts {
+        Some(RecordParts {
             ttl: self.ttl,
             class: Some(text),
-        })
-    }
-
-    /// The parts with the items from an index on as those from the type on.
-    fn before<'i>(&self, items: &'i [Item<'t>], index: usize) -> RecordParts<'i, 't>
-        requires within { index ≤ length items.now }
-        ensures ttl { result.ttl ≡ self.now.ttl }
-        ensures class { result.class ≡ self.now.class }
-        ensures rest { map raw result.rest.now ≡ drop index (map raw items.now) }
-    {
-        let (_, rest) = items.split_at(index);
-        RecordParts {
-            ttl: self.ttl,
-            class: self.class,
             rest,
-        }
+        })
     }
 }
 
@@ -92,20 +74,18 @@ impl<'t> WordTexts<'t> {
 pub fn record_parts<'i, 't>(items: &'i [Item<'t>]) -> RecordParts<'i, 't>
     ensures { ArePartsIn (parts_after [] (map raw items.now)) result }
 {
-    let mut texts = WordTexts {
+    let mut parts = RecordParts {
         ttl: None,
         class: None,
+        rest: items,
     };
-    for (index, item) in items.iter().enumerate() {
-        let Item::Bare(text) = *item else {
-            return texts.before(items, index);
+    while let Some((text, rest)) = split_bare(parts.rest) {
+        let Some(next) = parts.with(text, rest) else {
+            return parts;
         };
-        let Some(next) = texts.with(text) else {
-            return texts.before(items, index);
-        };
-        texts = next;
+        parts = next;
     }
-    texts.before(items, items.len())
+    parts
 }
 
 /// The seconds of a TTL (RFC 2181 8). `None`: the text is no time, or over 2147483647.
@@ -113,10 +93,7 @@ pub fn ttl_of(text: &[u8]) -> Option<u32>
     ensures some { IfSome result (IsTtl text.now) }
     ensures none { IfNone result (NothingIs (IsTtl text.now)) }
 {
-    match ttl_in(text) {
-        Ok(seconds) => Some(seconds),
-        Err(_) => None,
-    }
+    ttl_in(text).ok()
 }
 
 /// Whether a TTL that is stated has a value.
@@ -124,12 +101,9 @@ fn ttl_has_value(text: Option<&[u8]>) -> bool
     ensures yes { result ≡ true → IfSome text.entry (λ stated. HasValue (ttl stated.now)) }
     ensures no { result ≡ false → IsSomeAnd text.entry (λ stated. HasValue (ttl stated.now) → ⊥) }
 {
-    let Some(text) = text else {
-        return true;
-    };
-    match ttl_of(text) {
-        Some(_) => true,
-        None => false,
+    match text {
+        Some(text) => ttl_of(text).is_some(),
+        None => true,
     }
 }
 

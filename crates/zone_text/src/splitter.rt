@@ -5,12 +5,15 @@ ghost use Rattle.zone_text.specs.Machine.Feeding.{Follow, FollowOn, IsSplitter, 
 ghost use Rattle.zone_text.specs.declared.open_entry.EntryState.TheVariants.{Open};
 
 use crate::ended::EndedEntries;
-use crate::entry::cut_entry;
+use crate::entry::entry_items;
+use crate::feeds::line_feeds;
 use crate::open_entry::{EntryState, OpenEntry};
+use crate::parser_state::ParserState;
 use crate::stops::Stops;
 use crate::walk::{Reached, walk};
 use std::alloc::{AllocError, Global};
 use zone_name::Name;
+use zone_rdata::{PendingRecords, Place};
 
 /// How many octets the unfinished entry takes at once. It copies them, and mostly ends soon.
 const AT_ONCE: usize = 1024;
@@ -35,7 +38,11 @@ impl EntrySplitter {
     {
         EntrySplitter {
             alloc,
-            ended: EndedEntries::new(alloc, origin),
+            ended: EndedEntries {
+                decided: PendingRecords::new(alloc),
+                state: ParserState::new(alloc, origin),
+                line: 1,
+            },
             unfinished: OpenEntry::new(alloc),
         }
     }
@@ -88,7 +95,7 @@ impl EntrySplitter {
                 Ok(left)
             }
             EntryState::Broken(fault) => {
-                self.ended.refuse(fault);
+                self.ended.decided.ending = Some((fault, Place::Line(self.ended.line)));
                 self.unfinished.clear();
                 Ok(left)
             }
@@ -107,8 +114,8 @@ impl EntrySplitter {
         {
             let mut items = Vec::new(self.alloc);
             let entry = self.unfinished.octets();
-            let lines = cut_entry(entry, &mut items)?;
-            self.ended.read(entry, &items, lines)?;
+            entry_items(entry, &mut items)?;
+            self.ended.read(entry, &items, line_feeds(entry))?;
         }
         self.unfinished.clear();
         Ok(())
@@ -125,30 +132,16 @@ impl EntrySplitter {
         ensures nothing { self.old.unfinished.octets ≡ [] → IsOk result }
         ensures reads { OnOk result (ReadsAll self.old self.new) }
     {
-        if self.ended.decided.ending.is_none() {
-            self.end_last()?;
-        }
-        self.unfinished.clear();
-        Ok(())
-    }
-
-    /// Reads the entry that the end of the file ends, if one is unfinished.
-    fn end_last(&mut self) -> Result<(), AllocError>
-        requires is { IsSplitter self.old.ended self.old.unfinished }
-        requires undecided { self.old.ended.decided.ending ≡ None }
-        requires fits { reach self.old < 2 ^ 64 }
-        ensures later { OnOk result (self.old.ended.line ≤ self.new.ended.line) }
-        ensures near { OnOk result (self.new.ended.line ≤ reach self.old) }
-        ensures nothing { self.old.unfinished.octets ≡ [] → IsOk result }
-        ensures reads { OnOk result (ReadsAll self.old self.new) }
-    {
         if self.unfinished.octets().is_empty() {
             return Ok(());
         }
         match self.unfinished.end_fault() {
-            Some(fault) => self.ended.refuse(fault),
-            None => self.end_entry()?,
+            Some(fault) => {
+                self.ended.decided.ending = Some((fault, Place::Line(self.ended.line)));
+                self.unfinished.clear();
+                Ok(())
+            }
+            None => self.end_entry(),
         }
-        Ok(())
     }
 }

@@ -37,12 +37,10 @@ fn len_until_in_few(octets: &[u8], one: u8, other: u8) -> usize
     ensures len { result ≡ prefix_len (λ c. not (c == one || c == other)) octets.now }
     ensures within { result ≤ length octets.now }
 {
-    for (index, octet) in octets.iter().enumerate() {
-        if is_either(*octet, one, other) {
-            return index;
-        }
-    }
-    octets.len()
+    octets
+        .iter()
+        .take_while(|octet| !is_either(**octet, one, other))
+        .count()
 }
 
 /// Whether an octet is one of two.

@@ -17,8 +17,8 @@ use crate::token::{Span, item_of, token_span};
 use std::alloc::{AllocError, Global};
 use zone_rdata::{Fault, Item};
 
-/// Where octets leave the entry that they begin.
-#[derive(Clone, Copy, Drop)]
+/// Where octets leave the entry that they begin. The default is its beginning.
+#[derive(Clone, Copy, Default, Drop)]
 pub(crate) struct At {
     /// The octets of the tokens that are whole.
     pub(crate) start: usize,
@@ -63,23 +63,6 @@ enum Step<'t> {
     Goes(Between<'t>),
     /// What the walk reaches, and what is known of the octets after the entry, where it ends.
     Reaches(Reached, Stops),
-}
-
-impl At {
-    /// The beginning of an entry.
-    pub(crate) fn beginning() -> At
-        ensures start { result.start ≡ 0 }
-        ensures seen { result.seen ≡ 0 }
-        ensures depth { result.depth ≡ 0 }
-        ensures feeds { result.feeds ≡ 0 }
-    {
-        At {
-            start: 0,
-            seen: 0,
-            depth: 0,
-            feeds: 0,
-        }
-    }
 }
 
 /// Whether an octet that stops a bare item is a blank.
@@ -286,7 +269,7 @@ pub(crate) fn walk<'t>(
     ensures known { IfOk result (λ reached. TellsAfter octets.now reached known.new) }
 {
     items.clear();
-    walk_on(octets, At::beginning(), known, true, items)
+    walk_on(octets, At::default(), known, true, items)
 }
 
 /// Walks on over the octets of an entry from where fewer of them left it. No items are kept. Of the

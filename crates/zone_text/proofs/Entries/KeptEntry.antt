@@ -1,6 +1,6 @@
 -- An entry of very many items has the fault that it has where some that spell strings are left out,
 -- and states nothing.
-use Rattle.zone_text.proofs.Common.{AllByRecursion, AreKept, AreShortened, Bool, Cuts, Data, DecidesEntry, Entry, EntryFault, Err, Fault, HasContents, HasHeadOf, Head, IsOwner, IsWritten, Labels, LeavesOut, List, None, Ok, OnOk, Option, ParserState, Parts, PartsFault, PendingRecords, Place, RawItem, Result, Some, Statement, StatementFault, StatesNothing, Token, Word, [], after_item, ap, are_many, arith, begin_with, class, class_among, class_word, common_steps, data_of, decides_fault, decides_none, decides_one, directive, entry_of, false, fault_of_all, flat_map, if◌then◌else◌, includes, inl, inr, is_blank, item_of, length, no_items, of_parts, of_rdata, of_statement, of_ttl, one_bare, owned, parts_after, parts_in, refl, rules, sets_origin, sets_ttl, slice_get, state_none, statement_by, statement_of, subst, sym, true, ttl, ttl_among, unknown, unless_stated, unowned, word_after, ℕ, ⊤, ◌++◌, ◌+◌, ◌==◌, ◌∙◌, ◌∷◌, ◌≡◌, ◌≤◌}
+use Rattle.zone_text.proofs.Common.{AllByRecursion, AreKept, AreShortened, Bool, Cuts, Data, DecidesEntry, Entry, EntryFault, Fault, HasContents, HasHeadOf, Head, IsOwner, IsWritten, Labels, LeavesOut, List, None, Option, ParserState, Parts, PartsFault, PendingRecords, Place, RawItem, Some, Statement, StatementFault, StatesNothing, Token, Word, [], after_item, ap, are_many, arith, begin_with, class, class_among, class_word, common_steps, data_of, decides_fault, decides_none, decides_one, directive, entry_of, false, fault_of_all, flat_map, if◌then◌else◌, includes, inl, inr, is_blank, item_of, length, no_items, of_parts, of_rdata, of_statement, of_ttl, one_bare, owned, parts_after, parts_in, refl, rules, sets_origin, sets_ttl, slice_get, state_none, statement_by, statement_of, subst, sym, true, ttl, ttl_among, unknown, unless_stated, unowned, word_after, ℕ, ⊤, ◌++◌, ◌+◌, ◌==◌, ◌∙◌, ◌∷◌, ◌≡◌, ◌≤◌}
 use Rattle.zone_rdata.specs.Item.{bare}
 use Rattle.zone_text.proofs.Entries.Kept.{items_written}
 use Rattle.zone_text.proofs.Heads.WordsLeft.{class_joined, parts_by, ttl_joined}
@@ -163,8 +163,7 @@ decides_kept origin before entry kept place old new next written (inr short) (de
 decides_kept origin before entry kept place old new next written (inr short) (decides_fault fault bad same ending) = decides_fault fault (fault_kept origin before entry kept fault (record { short = short; written = written }) bad) same ending
 
 -- what an entry of these octets and items decides, an entry decides of whose items these are kept
-pub entry_kept : {T E : Type 0} (result : Result T E) (origin : Labels) (before : List Entry) (line : ℕ) (octets : List ℕ) (tokens : List Token) (kept : List RawItem) (place : Place) (old new : PendingRecords) (next : ParserState) → Cuts octets tokens → AreKept (flat_map item_of tokens) kept → OnOk result (DecidesEntry origin before (record { line = line; first = slice_get octets 0; items = kept }) place old new next) → OnOk result (DecidesEntry origin before (entry_of line tokens) place old new next)
-entry_kept (Ok x) origin before line octets tokens kept place old new next cut are h =
+pub entry_kept : (origin : Labels) (before : List Entry) (line : ℕ) (octets : List ℕ) (tokens : List Token) (kept : List RawItem) (place : Place) (old new : PendingRecords) (next : ParserState) → Cuts octets tokens → AreKept (flat_map item_of tokens) kept → DecidesEntry origin before (record { line = line; first = slice_get octets 0; items = kept }) place old new next → DecidesEntry origin before (entry_of line tokens) place old new next
+entry_kept origin before line octets tokens kept place old new next cut are h =
     decides_kept origin before (entry_of line tokens) kept place old new next (items_written tokens cut.each) are
     (subst (λ t. DecidesEntry origin before (record { line = line; first = slice_get t 0; items = kept }) place old new next) cut.whole h)
-entry_kept (Err e) origin before line octets tokens kept place old new next cut are h = tt

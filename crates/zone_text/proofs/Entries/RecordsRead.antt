@@ -1,7 +1,7 @@
 -- The parser state is what the look back over the entries finds: what one entry more leaves, and what
 -- a record entry whose parts are read in a known state states, or why it is refused.
-use Rattle.zone_text.proofs.Common.{BadTtl, Data, Entry, EntryFault, EntryStates, Fault, HasContents, HasHeadOf, HasOwnerOrNone, HasTtl, Head, IsDataFault, IsLastMinimum, IsLastOwner, IsOneOrNone, IsOwner, IsRecord, IsRecordEntry, IsStateAfter, IsTtlOrNone, Labels, List, Lower, MatchOption, NoOwner, NoTtl, None, Option, ParserState, RawItem, Record, Some, States, arith, long, minimum, none, of_rdata, of_ttl, option_or, owned, refl, rules, stated_ttl, statement_of, subst, sym, ttl_text, with_owner, ℕ, ◌<◌, ◌∷◌, ◌≡◌, IsOrigin, IsTime, SetsOrigin, SetsTtl, SpellsAfter, Statement, StatesMinimum, StatesNothing, [], default_ttl_text, inl, inr, latest, owner_text, parts_in, sets_origin, sets_ttl}
-use Rattle.zone_rdata.specs.Item.{bare}
+use Rattle.zone_text.proofs.Common.{BadTtl, Data, Entry, EntryFault, EntryStates, Fault, HasContents, HasHeadOf, HasOwnerOrNone, HasTtl, Head, IsDataFault, IsLastMinimum, IsLastOwner, IsOneOrNone, IsOwner, IsRecord, IsRecordEntry, IsStateAfter, IsTtlOrNone, Labels, List, Lower, MatchOption, NoOwner, NoTtl, None, Option, ParserState, RawItem, Record, Some, States, arith, long, minimum, none, of_rdata, of_statement, of_ttl, one_bare, option_or, owned, refl, rules, stated_ttl, statement_of, subst, sym, ttl_text, with_owner, ℕ, ◌<◌, ◌∷◌, ◌≡◌, IsOrigin, IsTime, IsTtl, SpellsAfter, Spells, Statement, StatesMinimum, StatesNothing, [], default_ttl_text, inl, inr, latest, owner_text, parts_in, sets_origin, sets_ttl}
+use Rattle.zone_rdata.specs.Spelling.{bare}
 use Rattle.zone_text.proofs.Entries.EntryOutcome.{states_no_minimum, no_minimum}
 
 -- ---- an entry that is no record
@@ -36,20 +36,26 @@ none_by o stated last Last absent is e n has = search rules
 
 -- ---- directives that are read
 
-pub origin_set : (origin : Labels) (before : List Entry) (entry : Entry) (d next : ParserState) (items : List RawItem) → IsStateAfter origin before d → statement_of entry ≡ sets_origin items → SetsOrigin items d next → StatesNothing origin before (statement_of entry) × IsStateAfter origin (entry ∷ before) next
-origin_set origin before entry d next items so_far form sets =
-    let spells : SpellsAfter origin before sets.text next.origin = (d.origin, (so_far.under, sets.spelled)) in
-    let item : items ≡ bare sets.text ∷ [] = grind (arith, sets.item) in
-    let states : StatesNothing origin before (sets_origin items) = rw item (next.origin, spells) in
-    let under : IsOrigin origin (entry ∷ before) next.origin = rw (form, item) spells in
-    (rw form states, rw sets.others (leaves origin before entry (sets_origin items) d next.origin d.default_ttl form refl refl so_far under (search rules)))
+one_item : (items : List RawItem) (text : List ℕ) → one_bare items ≡ Some text → items ≡ bare text ∷ []
+one_item items text one = grind arith
 
-pub ttl_set : (origin : Labels) (before : List Entry) (entry : Entry) (d next : ParserState) (items : List RawItem) → IsStateAfter origin before d → statement_of entry ≡ sets_ttl items → SetsTtl items d next → StatesNothing origin before (statement_of entry) × IsStateAfter origin (entry ∷ before) next
-ttl_set origin before entry d next items so_far form sets =
-    let item : items ≡ bare sets.text ∷ [] = grind (arith, sets.item) in
-    let states : StatesNothing origin before (sets_ttl items) = rw item (sets.seconds, sets.ttl) in
-    let default : IsTtlOrNone (latest default_ttl_text (entry ∷ before)) (Some sets.seconds) = rw (form, item) (sets.ttl) in
-    (rw form states, rw sets.others (leaves origin before entry (sets_ttl items) d d.origin (Some sets.seconds) form refl refl so_far (rw form (so_far.under)) default))
+pub origin_set : (origin : Labels) (before : List Entry) (entry : Entry) (d : ParserState) (items : List RawItem) (text : List ℕ) (name : Labels) → IsStateAfter origin before d → statement_of entry ≡ sets_origin items → one_bare items ≡ Some text → Spells (Some d.origin) text name → StatesNothing origin before (statement_of entry) × IsStateAfter origin (entry ∷ before) (record d { origin = name })
+origin_set origin before entry d items text name so_far form one spelled =
+    let spells : SpellsAfter origin before text name = (d.origin, (so_far.under, spelled)) in
+    let item : items ≡ bare text ∷ [] = one_item items text one in
+    let states : StatesNothing origin before (sets_origin items) = rw item (name, spells) in
+    let under : IsOrigin origin (entry ∷ before) name = rw (form, item) spells in
+    (rw form states, leaves origin before entry (sets_origin items) d name d.default_ttl form refl refl so_far under (search rules))
+
+pub ttl_set : (origin : Labels) (before : List Entry) (entry : Entry) (d : ParserState) (items : List RawItem) (text : List ℕ) (seconds : ℕ) → IsStateAfter origin before d → statement_of entry ≡ sets_ttl items → one_bare items ≡ Some text → IsTtl text seconds → StatesNothing origin before (statement_of entry) × IsStateAfter origin (entry ∷ before) (record d { default_ttl = Some seconds })
+ttl_set origin before entry d items text seconds so_far form one is =
+    let item : items ≡ bare text ∷ [] = one_item items text one in
+    let states : StatesNothing origin before (sets_ttl items) = rw item (seconds, is) in
+    let default : IsTtlOrNone (latest default_ttl_text (entry ∷ before)) (Some seconds) = rw (form, item) is in
+    (rw form states, leaves origin before entry (sets_ttl items) d d.origin (Some seconds) form refl refl so_far (rw form (so_far.under)) default)
+
+pub ttl_refused : (origin : Labels) (before : List Entry) (entry : Entry) (items : List RawItem) (text : List ℕ) (fault : Fault) → statement_of entry ≡ sets_ttl items → one_bare items ≡ Some text → (fault ≡ BadTtl) × ((seconds : ℕ) → IsTtl text seconds → ⊥) → EntryFault origin before entry fault
+ttl_refused origin before entry items text fault form one bad = of_statement (rw (form, one_item items text one) bad)
 
 -- a record entry up to its data, and the TTL that is looked for
 pub record IsReadTo (origin : Labels) (before : List Entry) (entry : Entry) (d : ParserState)

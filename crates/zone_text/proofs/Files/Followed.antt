@@ -1,9 +1,9 @@
 -- What is decided of octets by what those before them left, and what follows from octets fed and
 -- records given, part by part.
-use Rattle.zone_text.proofs.Common.{AreTokens, Breaks, Cuts, EndedEntries, Ending, Entry, Fault, FileDecides, FileLeaves, FileReads, Follow, IsBrokenOff, IsOneEntry, IsOpen, IsStateAfter, Labels, Line, List, None, Place, Placed, ReadEach, ReadsEntry, ReadsOctets, Some, Token, [], and_last, ap, append-nil, append_assoc, arith, broken, common_steps, cut_from, decided, ended_entries, entries_of, entry_of, flat_map, flat_map_more, inl, inr, numbered, open_line, refl, reverse, reverse-append, subst, sym, text, undecided, whole, zero, ℕ, ◌++◌, ◌+◌, ◌∙◌, ◌∷◌, ◌≡◌}
+use Rattle.zone_text.proofs.Common.{AreTokens, Breaks, Cuts, EndedEntries, Ending, Entry, Fault, FileDecides, FileLeaves, FileReads, Follow, IsBrokenOff, IsOneEntry, IsOpen, IsSplitter, IsStateAfter, Labels, Line, List, None, Option, Place, Placed, ReadEach, ReadsEntry, ReadsOctets, Some, Token, [], and_last, ap, append-nil, append_assoc, arith, broken, common_steps, cut_from, decided, ended_entries, entries_of, entry_of, flat_map, flat_map_more, inl, inr, numbered, open_line, refl, reverse, reverse-append, subst, sym, text, undecided, whole, zero, ℕ, ◌++◌, ◌+◌, ◌∙◌, ◌∷◌, ◌≡◌}
 use Rattle.zone_text.proofs.Tokens.CutAgain.{joined, AreEnded, again_zero, cut_whole}
 use Rattle.zone_text.proofs.Files.Left.{line_feeds, numbered_then, IsSplit, split, whole_after, cut_more, tokens_more, ended_as_before, one_ended, reads_then, refused_before, reads_after, break_more, for_good_more, none_cut, none_more, ended_entries_first}
-use Rattle.zone_text.specs.OpenEntry.{EndIs}
+use Rattle.zone_text.specs.OpenEntry.{EndIs, HeldEntry}
 use Rattle.zone_text.proofs.Tokens.Cuttings.{cut_or_broken}
 use Rattle.zone_text.proofs.Tokens.Lasting.{breaks_for_good}
 use Rattle.zone_text.proofs.Files.Decides.{tokens_of, goes_on, ended_on, read_states}
@@ -169,6 +169,16 @@ pub end_of_lines : (origin : Labels) (entries : EndedEntries) (unfinished fed : 
 end_of_lines origin entries unfinished fed given empty none follow =
     let found = is_read origin entries unfinished fed given none follow in
     rw none (whole (joined found.0 ++ []) (all_tokens fed found.0 unfinished [] found.1.parts (record { whole = empty; each = tt; follow = tt; balanced = refl })) (rw (entries_are found.0 [] found.1.parts.stays refl) (found.1.read)))
+
+-- none are, whatever is decided
+pub end_of_all : (origin : Labels) (entries : EndedEntries) (unfinished fed : List ℕ) (given : List Placed) → unfinished ≡ [] → (ending : Option (Fault × Place)) → entries.decided.ending ≡ ending → Follow origin entries unfinished fed given → Reads origin fed given entries
+end_of_all origin entries unfinished fed given empty None is follow = end_of_lines origin entries unfinished fed given empty is follow
+end_of_all origin entries unfinished fed given empty (Some found) is follow = end_of_fault origin entries found unfinished fed given is follow
+
+-- where some are, no fault is decided
+pub undecided_with : (entries : EndedEntries) (held : HeldEntry) → IsSplitter entries held → (held.octets ≡ [] → ⊥) → (ending : Option (Fault × Place)) → entries.decided.ending ≡ ending → entries.decided.ending ≡ None
+undecided_with entries held is some None e = e
+undecided_with entries held is some (Some found) e = absurd (some (is.dropped found e))
 
 -- they break
 pub end_of_break : (origin : Labels) (old new : EndedEntries) (fault : Fault) (unfinished fed : List ℕ) (given : List Placed) → EndIs unfinished (Some fault) → old.decided.ending ≡ None → new.decided.placed ≡ old.decided.placed → new.decided.ending ≡ Some (fault, Line old.line) → Follow origin old unfinished fed given → Reads origin fed given new

@@ -1,22 +1,40 @@
 -- The words before a record's type as they are written, found from the left.
-use Rattle.zone_text.proofs.Common.{arith, common_steps, AllByRecursion, HasValue, HaveTexts, IfSome, IsSomeAnd, List, None, Option, RawItem, Some, Word, [], ap, class, class_among, parts_after, refl, subst, sym, ttl, ttl_among, word_after, map, raw, ◌++◌, ◌∷◌, ◌≡◌}
-use Rattle.zone_text.proofs.Heads.WordsLeft.{class_joined, next_part, parts_by, ttl_joined}
+use Rattle.zone_text.proofs.Common.{arith, common_steps, AllByRecursion, HasValue, HaveTexts, IfSome, IsSomeAnd, List, None, Option, RawItem, Some, Word, [], ap, class, class_among, parts_after, refl, subst, sym, ttl, ttl_among, word_after, map, raw, ℕ, ◌++◌, ◌∙◌, ◌∷◌, ◌≡◌}
+use Rattle.zone_rdata.specs.Item.{bare}
+use Rattle.zone_text.proofs.Heads.WordsLeft.{class_joined, next_part, no_bare, parts_by, some_of, ttl_joined}
 use Rattle.zone_text.specs.PartsIn.{ArePartsIn}
 use Rattle.zone_text.specs.declared.parts.RecordParts.{RecordParts}
-use Rattle.zone_text.specs.declared.parts.WordTexts.{WordTexts}
 
 -- ---- all words
 
 -- the words found so far have these texts, and the items left follow them
-pub record ReadsTexts (items : List RawItem) (texts : WordTexts) (rest : List RawItem) : Type 0 where
+pub record ReadsTexts (items : List RawItem) (found : RecordParts) : Type 0 where
   pub words : List Word
-  pub have : HaveTexts words texts
-  pub parts : parts_after [] items ≡ parts_after words rest
+  pub have : HaveTexts words found
+  pub parts : parts_after [] items ≡ parts_after words (map raw found.rest.now)
+
+-- the items left are those from the type on
+pub are_found : (items : List RawItem) (found : RecordParts) → (reads : ReadsTexts items found) → parts_after reads.words (map raw found.rest.now) ≡ record { words = reads.words; rest = map raw found.rest.now } → ArePartsIn (parts_after [] items) found
+are_found items found reads end = subst (λ p. ArePartsIn p found) (sym (reads.parts ∙ end)) (record { ttl = reads.have.ttl; class = reads.have.class; rest = refl })
 
 -- the next item is no word
-pub found_before : (items rest after : List RawItem) (item : RawItem) (texts : WordTexts) (found : RecordParts) → ReadsTexts items texts rest → rest ≡ item ∷ after → ((words : List Word) → HaveTexts words texts → word_after words item ≡ None) → found.ttl ≡ texts.ttl → found.class ≡ texts.class → map raw found.rest.now ≡ rest → ArePartsIn (parts_after [] items) found
-found_before items rest after item texts found reads front none =
-    grind (arith, common_steps, next_part reads.words item after None (none reads.words reads.have))
+pub found_before : (items after : List RawItem) (item : RawItem) (found : RecordParts) → ReadsTexts items found → map raw found.rest.now ≡ item ∷ after → ((words : List Word) → HaveTexts words found → word_after words item ≡ None) → ArePartsIn (parts_after [] items) found
+found_before items after item found reads front none =
+    are_found items found reads (rw front (next_part reads.words item after None (none reads.words reads.have)))
+
+-- no bare item is left
+pub found_all : (items : List RawItem) (found : RecordParts) → ReadsTexts items found → ((text : List ℕ) (rest : List RawItem) → map raw found.rest.now ≡ bare text ∷ rest → ⊥) → ArePartsIn (parts_after [] items) found
+found_all items found reads none = are_found items found reads (no_bare reads.words (map raw found.rest.now) none)
+
+-- the next item is a word
+pub found_more : (items : List RawItem) (found next : RecordParts) (item : RawItem) → ReadsTexts items found → map raw found.rest.now ≡ item ∷ map raw next.rest.now → ((words : List Word) → HaveTexts words found → IsSomeAnd (word_after words item) (λ word. HaveTexts (words ++ word ∷ []) next)) → ReadsTexts items next
+found_more items found next item reads front some =
+    let word = some_of (λ word. HaveTexts (reads.words ++ word ∷ []) next) (word_after reads.words item) (some reads.words reads.have) in
+    record {
+      words = reads.words ++ word.0 ∷ [];
+      have = word.1.1;
+      parts = reads.parts ∙ (ap (parts_after reads.words) front ∙ next_part reads.words item (map raw next.rest.now) (Some word.0) word.1.0);
+    }
 
 -- ---- whether the words have values
 

@@ -1,7 +1,7 @@
 -- The words before a record's type, read from the left.
 use Rattle.zone_rdata.proofs.Numbers.TimeLaws.{one_time}
 use Rattle.zone_text.proofs.Common.{option_or, AllByRecursion, AllByRecursion-append, AreWordsOf, Bool, Entry, EntryFault, Fault, HasHead, HasValue, HaveValues, IsClass, IsClassWord, IsKind, IsKindWord, IsRecordEntry, IsSomeAnd, IsTime, IsTtl, IsWordFault, Item, Labels, List, None, NothingIs, Option, ParserState, Parts, PartsFault, RawItem, Some, UnknownType, Word, WordFault, Words, [], add-one, ap, append-nil, append_assoc, arith, begins_with_digit, class, class_among, drop, drop-cons, drop-map, false, get_or, inr, is_class_word, is_some, length, map, min, of_parts, parts_after, raw, refl, rules, subst, sym, true, ttl, ttl_among, unwrap_or, word_after, ℕ, ◌++◌, ◌+◌, ◌<◌, ◌∙◌, ◌∷◌, ◌≡◌, ◌≤◌}
-use Rattle.zone_rdata.specs.Item.{bare}
+use Rattle.zone_rdata.specs.Spelling.{bare, quoted}
 use Rattle.zone_text.proofs.Heads.ClassWords.{class_word_of, class_word_known}
 
 -- ---- one word more
@@ -58,6 +58,12 @@ pub record ReadsWords (items : List RawItem) (values : Words) (rest : List RawIt
 -- the next item is no word
 pub read_to : (items rest more : List RawItem) (v : Words) (item : RawItem) → ReadsWords items v rest → rest ≡ item ∷ more → ((words : List Word) → HaveValues words v → word_after words item ≡ None) → AreWordsOf (parts_after [] items) v rest
 read_to items rest more v item reads front none = search rules
+
+-- no word is left where no bare item is
+pub no_bare : (words : List Word) (rest : List RawItem) → ((text : List ℕ) (more : List RawItem) → rest ≡ bare text ∷ more → ⊥) → parts_after words rest ≡ record { words = words; rest = rest }
+no_bare words [] none = refl
+no_bare words (bare text ∷ rest) none = absurd (none text rest refl)
+no_bare words (quoted text ∷ rest) none = refl
 
 pub some_of : (P : Word → Type 0) (o : Option Word) → IsSomeAnd o P → (word : Word) × ((o ≡ Some word) × P word)
 some_of P o h = search rules

@@ -2,19 +2,18 @@
 use Rattle.std.specs.Prelude.{◌≡◌, ℕ, List, [], ◌∷◌, ◌++◌, Option, Some, None, MatchOption}
 use Rattle.zone_name.specs.Common.{Labels}
 use Rattle.zone_name.specs.Spelling.{Spells}
-use Rattle.zone_rdata.specs.Fields.Name.{IsNameFault}
 use Rattle.zone_rdata.specs.Record.{Record}
 use Rattle.zone_rdata.specs.Spelling.{RawItem, bare}
 use Rattle.zone_rdata.specs.declared.fault.Fault.{Fault}
-use Rattle.zone_rdata.specs.declared.fault.Fault.TheVariants.{BadDirective, NoOwner}
+use Rattle.zone_rdata.specs.declared.fault.Fault.TheVariants.{NoOwner}
 use Rattle.zone_rdata.specs.declared.fault.Place.{Place}
 use Rattle.zone_rdata.specs.declared.queue.PendingRecords.{PendingRecords}
 use Rattle.zone_rdata.specs.declared.record.Placed.{Placed}
 use Rattle.zone_text.specs.ParserState.{IsStateAfter}
 use Rattle.zone_text.specs.Entries.{Entry}
-use Rattle.zone_text.specs.EntryFault.{EntryFault, WordFault}
-use Rattle.zone_text.specs.Statements.{statement_of, parts_in, parts_after, ttl}
-use Rattle.zone_text.specs.Inherited.{IsLastOwner, IsOwner, IsTtl}
+use Rattle.zone_text.specs.EntryFault.{EntryFault}
+use Rattle.zone_text.specs.Statements.{statement_of, parts_in, parts_after}
+use Rattle.zone_text.specs.Inherited.{IsLastOwner, IsOwner}
 use Rattle.zone_text.specs.Records.{StatesNothing, EntryStates}
 use Rattle.zone_text.specs.declared.parser_state.ParserState.{ParserState}
 
@@ -74,28 +73,3 @@ pub record SetsOwner (text : List ℕ) (d next : ParserState) : Type 0 where
 abbrev pub one_bare : List RawItem → Option (List ℕ)
 one_bare (bare text ∷ []) = Some text
 one_bare items = None
-
--- `$ORIGIN` has one bare item, the name of which the origin becomes
-pub record SetsOrigin (items : List RawItem) (d next : ParserState) : Type 0 where
-  pub text : List ℕ
-  pub item : one_bare items ≡ Some text
-  pub spelled : Spells (Some d.origin) text next.origin
-  pub others : next ≡ record d { origin = next.origin }
-
--- `$TTL` has one bare item, the TTL that the default becomes
-pub record SetsTtl (items : List RawItem) (d next : ParserState) : Type 0 where
-  pub text : List ℕ
-  pub seconds : ℕ
-  pub item : one_bare items ≡ Some text
-  pub ttl : IsTtl text seconds
-  pub others : next ≡ record d { default_ttl = Some seconds }
-
--- the item of `$ORIGIN` is no name under an origin
-abbrev pub OriginFaultUnder : Labels → Option (List ℕ) → Fault → Type 0
-OriginFaultUnder above None fault = fault ≡ BadDirective
-OriginFaultUnder above (Some text) fault = IsNameFault above text fault
-
--- the item of `$TTL` is no time of 31 bits
-abbrev pub DefaultTtlFault : Option (List ℕ) → Fault → Type 0
-DefaultTtlFault None fault = fault ≡ BadDirective
-DefaultTtlFault (Some text) fault = WordFault (ttl text) fault

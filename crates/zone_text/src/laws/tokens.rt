@@ -1,11 +1,10 @@
 //! Laws of tokens and the entries that they make: how a text is cut, how it breaks, and what a
 //! prefix of it settles.
-ghost use Rattle.std.specs.Prelude.{[], ◌++◌, ◌≡◌, ◌↔◌, ◌⊎◌, ℕ, List, None, Some, zero};
+ghost use Rattle.std.specs.Prelude.{[], ◌++◌, ◌≡◌, ◌↔◌, ◌⊎◌, ℕ, List, Some, zero};
 ghost use Rattle.std.specs.List.{flat_map};
 ghost use Rattle.zone_name.specs.Spelling.{IsBadEscape};
 ghost use Rattle.zone_rdata.specs.declared.fault.Fault.{Fault};
 ghost use Rattle.zone_text.specs.Breaks.{Breaks};
-ghost use Rattle.zone_text.specs.Machine.Cutting.{cutting};
 ghost use Rattle.zone_text.specs.Decided.{AreTokens};
 ghost use Rattle.zone_text.specs.Entries.{and_last, cut_from, ended_entries, entries_of, Entry, numbered, open_line};
 ghost use Rattle.zone_text.specs.Lasting.{BreaksAtEnd, BreaksForGood, EndInLineFeed, IsCutOff, IsLostEscape, StaysBroken};
@@ -35,15 +34,6 @@ pub fn no_text_is_cut_and_breaks()
 pub fn each_text_is_cut_or_breaks()
     ensures { (octets : List ℕ) → ((tokens : List Token) × Cuts octets tokens)
         ⊎ ((tokens : List Token) × (fault : Fault) × Breaks octets tokens fault) }
-{}
-
-/// The cutting from the left gives the tokens of a text, and the break of one that isn't cut.
-pub(crate) fn a_text_is_cut_from_the_left()
-    ensures cut { (octets : List ℕ) (tokens : List Token)
-        → (cutting octets ≡ record { tokens = tokens; broken = None }) ↔ Cuts octets tokens }
-    ensures broken { (octets : List ℕ) (tokens : List Token) (fault : Fault)
-        → (cutting octets ≡ record { tokens = tokens; broken = Some fault })
-        ↔ Breaks octets tokens fault }
 {}
 
 /// What stands after a line feed outside parentheses is cut, or breaks, as it is by itself.

@@ -1,8 +1,9 @@
-use Rattle.zone_text.proofs.Common.{sym}
-use Rattle.zone_text.proofs.Entries.KeptEntry.{entry_kept}
+use Rattle.zone_text.proofs.Common.{ap, statement_in, ◌∙◌}
+use Rattle.zone_text.proofs.Entries.EntryTaken.{refused_entry}
 use Rattle.zone_text.proofs.parser_state.ParserState.read.Goals as goal
 
-pub returns : goal.returns
-returns c origin before line tokens are cut kept =
-    entry_kept _ origin before line c.args.entry.now tokens _ _ _ _ _ cut kept
-    (c.read_parsed.ensures origin before (record { line = line; first = _; items = _ }) are (sym c.statement_of.ensures))
+pub returns-in-Err : goal.returns-in-Err
+returns-in-Err c origin before entry so_far form =
+    refused_entry c.refuse.result origin before entry c.args.place c.args.decided.now c.refuse.new.self c.follow.new.self c.of.result
+    (rw c.of.ensures (c.in-Err.ensures.fault origin before entry so_far (form ∙ ap statement_in c.in-Directive.is)))
+    c.refuse.ensures.decided

@@ -1,22 +1,26 @@
-use Rattle.zone_text.proofs.Common.{EntrySplitter, arith, subst, sym, ◌≤◌}
-use Rattle.zone_text.proofs.Entries.Begun.{nothing_taken, some_found}
-use Rattle.zone_text.proofs.Files.Followed.{end_of_fault, Reads}
+use Rattle.zone_text.proofs.Common.{length, on_ok_weaker, refl, subst, sym, ◌∙◌}
+use Rattle.zone_text.proofs.Entries.Begun.{none_left, some_left}
+use Rattle.zone_text.proofs.Files.Followed.{end_of_all, end_of_break, end_of_some, undecided_with}
+use Rattle.zone_text.specs.OpenEntry.{EndIs}
 use Rattle.zone_text.proofs.splitter.EntrySplitter.finish.Goals as goal
-use Rattle.zone_text.proofs.splitter.EntrySplitter.finish.Goals.{then-is_none+in_ok-end_last, else-is_none}
 
-pub returns-clause-is : goal.returns-clause-is
-returns-clause-is c =
-    nothing_taken _ c.clear.new.self c.clear.ensures.octets c.clear.ensures.state
-    (elim c.if-is_none.branch [
-      | then-is_none+in_ok-end_last w ↦ subst (λ (s : EntrySplitter). 1 ≤ s.ended.line) (sym w.self-is) (omega (arith, w.in_ok-end_last.ensures.later, c.requires.is.line))
-      | else-is_none w ↦ subst (λ (s : EntrySplitter). 1 ≤ s.ended.line) (sym w.self-is) c.requires.is.line
-    ])
+pub returns-then-is_empty-clause-reads : goal.returns-then-is_empty-clause-reads
+returns-then-is_empty-clause-reads c origin fed given follow =
+    end_of_all origin c.args.self.now.ended c.args.self.now.unfinished.octets fed given (sym c.octets.ensures ∙ none_left c.octets.result.now (length c.octets.result.now) c.is_empty.result refl c.is_empty.ensures c.if-is_empty.true) c.args.self.now.ended.decided.ending refl follow
 
-pub returns-clause-reads : goal.returns-clause-reads
-returns-clause-reads c origin fed given follow =
-    elim c.if-is_none.branch [
-      | then-is_none+in_ok-end_last w ↦ subst (λ (s : EntrySplitter). Reads origin fed given s.ended) (sym w.self-is) (w.in_ok-end_last.ensures.reads origin fed given follow)
-      | else-is_none w ↦
-          let found = some_found c.args.self.now.ended.decided.ending w.if-is_none.ensures in
-          subst (λ (s : EntrySplitter). Reads origin fed given s.ended) (sym w.self-is) (end_of_fault origin c.args.self.now.ended found.0 c.args.self.now.unfinished.octets fed given found.1 follow)
-    ]
+pub returns-in-Some-clause-reads : goal.returns-in-Some-clause-reads
+returns-in-Some-clause-reads c origin fed given follow =
+    let some = some_left c.octets.result.now (length c.octets.result.now) c.is_empty.result refl c.is_empty.ensures c.if-is_empty.false in
+    let none = undecided_with c.args.self.now.ended c.args.self.now.unfinished c.requires.is (λ e. some (c.octets.ensures ∙ e)) c.args.self.now.ended.decided.ending refl in
+    end_of_break origin c.args.self.now.ended (record c.args.self.now.ended { decided = _ }) c.in-Some.fault c.args.self.now.unfinished.octets fed given (subst (EndIs c.args.self.now.unfinished.octets) c.in-Some.is (c.end_fault.ensures.open c.requires.is.state)) none refl refl follow
+
+pub end_entry-requires-clause-undecided : goal.end_entry-requires-clause-undecided
+end_entry-requires-clause-undecided c =
+    let some = some_left c.octets.result.now (length c.octets.result.now) c.is_empty.result refl c.is_empty.ensures c.if-is_empty.false in
+    undecided_with c.args.self.now.ended c.args.self.now.unfinished c.requires.is (λ e. some (c.octets.ensures ∙ e)) c.args.self.now.ended.decided.ending refl
+
+pub returns-in-None-clause-reads : goal.returns-in-None-clause-reads
+returns-in-None-clause-reads c =
+    let some = some_left c.octets.result.now (length c.octets.result.now) c.is_empty.result refl c.is_empty.ensures c.if-is_empty.false in
+    let none = undecided_with c.args.self.now.ended c.args.self.now.unfinished c.requires.is (λ e. some (c.octets.ensures ∙ e)) c.args.self.now.ended.decided.ending refl in
+    on_ok_weaker c.end_entry.result (λ reads origin fed given follow. end_of_some origin c.args.self.now.ended c.end_entry.new.self.ended c.args.self.now.unfinished.octets fed given (subst (EndIs c.args.self.now.unfinished.octets) c.in-None.is (c.end_fault.ensures.open c.requires.is.state)) (λ e. some (c.octets.ensures ∙ e)) none reads follow) c.end_entry.ensures.reads

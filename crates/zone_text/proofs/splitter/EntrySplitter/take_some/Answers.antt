@@ -18,4 +18,4 @@ pub returns-in-Broken : goal.returns-in-Broken
 returns-in-Broken c =
     let some : 0 < length c.split_at.result.0.now = omega (arith, c.requires.some, c.split_at.ensures.front_len) in
     let front = takes_front _ _ c.args.octets.now _ _ _ _ c.split_at.ensures.front c.in_ok-taken.ensures.taken c.requires.is.state some c.split_at-2.ensures.back in
-    part_broken c.args.self.now _ c.args.octets.now _ _ _ c.in-Broken.fault c.requires.is c.requires.undecided front c.in-Broken.is c.refuse.ensures.records (rw c.in-Broken.is at c.refuse.ensures.ending) c.refuse.ensures.line c.clear.ensures.octets c.clear.ensures.state
+    part_broken c.args.self.now _ c.args.octets.now _ _ _ c.in-Broken.fault c.requires.is c.requires.undecided front c.in-Broken.is refl (rw c.in-Broken.is refl) refl c.clear.ensures.octets c.clear.ensures.state
