@@ -3,7 +3,6 @@ use Rattle.zone_wire.proofs.Common.{common_steps, AllByRecursion-append, Bytes, 
 use Rattle.zone_wire.proofs.Fields.FieldReading.{between_first, between_join, part_len}
 use Rattle.zone_wire.proofs.Names.Walking.{Carries, carries_label, carries_pointer, carries_start, drop_each, label_octets, label_shows, pointer_shows, spots_show, take_each, wire-octets}
 use Rattle.std.specs.Char.{to_ascii_lowercase}
-use Rattle.zone_name.proofs.InOctets.Pushing.{folded_again, refilled}
 use Rattle.std.proofs.lemmas.Slice.{take-put_mid, take-put_mid_below}
 use borrow.Rule.Slice.PartMut.{post_of, put_mid}
 use lib.Lanes.{chunk, put_chunk}
@@ -189,6 +188,10 @@ copied_all message start old now at done size c le room =
     ∙ ap₂ (λ (s t : List ℕ). s ++ take size t) (take_at front back at long) (drop_at front back at long)
     ∙ ap (λ t. front ++ t) (take-map folded_octet size (take done from) ∙ ap (map folded_octet) (take-take size done from le))
 
+-- letters are put in lower case as those of names are folded
+lowered_as_folded : (octets lower : List ℕ) → lower ≡ map to_ascii_lowercase octets → lower ≡ map folded_octet octets
+lowered_as_folded octets lower e = grind (arith, length-map)
+
 -- octets of a message that are written to a part of a room, and put in lower case there
 pub copied_part : (message room : List ℕ) (start size at k : ℕ) (copied lower : List ℕ) → k ≡ size → start + size ≤ length message → at + size ≤ length room → copied ≡ take size (drop start message)
     → lower ≡ map to_ascii_lowercase (take k (drop at (put_mid at k room copied)))
@@ -198,7 +201,7 @@ copied_part message room start size at k copied lower whole part fits is e =
     let front : length (take at room) ≡ at = length-take-le at room (omega arith) in
     let there : take k (drop at (put_mid at k room copied)) ≡ copied = ap (take k) (drop_at (take at room) (copied ++ post_of at k room) at front) ∙ take_at copied (post_of at k room) k (omega (arith, long)) in
     let lowered : lower ≡ map to_ascii_lowercase copied = e ∙ ap (map to_ascii_lowercase) there in
-    let low : lower ≡ map folded_octet copied = sym (refilled copied lower (ap length lowered ∙ length-map copied to_ascii_lowercase)) ∙ folded_again copied lower lowered in
+    let low : lower ≡ map folded_octet copied = lowered_as_folded copied lower lowered in
     let size_of : length lower ≡ size = ap length low ∙ length-map copied folded_octet ∙ long in
     take-put_mid at k (put_mid at k room copied) lower (at + size) (omega (arith, size_of)) (omega (arith, front, length-append (take at room) (copied ++ post_of at k room)))
     ∙ ap₂ (λ (s t : List ℕ). s ++ t) (take-put_mid_below at k room copied at (omega arith) (omega arith)) (low ∙ ap (map folded_octet) is)
