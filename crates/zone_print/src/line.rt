@@ -1,5 +1,5 @@
 ghost use Rattle.std.specs.Prelude.{[], ◌∷◌, ◌++◌, OnOk};
-ghost use Rattle.zone_print.specs.Canonical.{line, lines};
+ghost use Rattle.zone_print.specs.Canonical.{line};
 ghost use Rattle.zone_print.specs.Machine.Middle.{before_kind, kind_column};
 ghost use Rattle.zone_rdata.specs.Record.{data_of};
 ghost use Rattle.zone_rdata.specs.Text.{data_text};
@@ -8,7 +8,6 @@ ghost use Rattle.zone_rdata.specs.Lent.{record_of};
 use itoa::Buffer;
 use zone_name::Sink;
 use zone_rdata::RrRef;
-use zone_set::UnorderedRecords;
 
 /// Appends TTL and class of the record, each after a space, and a space.
 ///
@@ -64,22 +63,4 @@ pub fn push_line<S: Sink>(out: &mut S, rr: &RrRef) -> Result<(), S::Error>
     push_before_kind(out, rr)?;
     push_kind(out, rr)?;
     push_data(out, rr)
-}
-
-/// Appends the lines of records as they come.
-///
-/// # Errors
-///
-/// `out` refuses octets. A prefix of the text may have been appended.
-#[tactic(auto, using(crate::proofs::Lines::line_ends))]
-pub(crate) fn push_lines<S: Sink>(
-    out: &mut S,
-    records: UnorderedRecords<'_>,
-) -> Result<(), S::Error>
-    ensures { OnOk result (S.takes out.old (lines records.entry) out.new) }
-{
-    for rr in records {
-        push_line(out, &rr)?;
-    }
-    Ok(())
 }

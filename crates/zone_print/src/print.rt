@@ -5,14 +5,13 @@ ghost use Rattle.zone_print.specs.Device.{WorksOn};
 ghost use Rattle.zone_print.specs.Machine.Writing.{IsOfWriting};
 ghost use Rattle.zone_print.specs.Writing.{AppendsPart, StopsPush, StopsWrite};
 
-use crate::laws::a_text_is_at_most_four_times_its_messages;
-use crate::line::push_lines;
+use crate::line::push_line;
 use crate::line_buffer::LineBuffer;
 use crate::write::{OctetWriter, write_octets};
 use std::alloc::Global;
 use zone_name::Room;
 use zone_rdata::{Fault, Place, Stop};
-use zone_set::Zone;
+use zone_set::{Zone, message_len};
 
 /// How long an input and a canonical text may be, in octets.
 pub const TEXT_LIMIT: u64 = 1_073_741_824;
@@ -75,18 +74,29 @@ fn len_within(zone: &Zone, limit: u64) -> u64
 {
     let mut room = Room { left: limit + 1 };
     // In any order the lines are as long.
-    let Ok(()) = push_lines(&mut room, zone.unordered_records());
+    for rr in zone.unordered_records() {
+        let Ok(()) = push_line(&mut room, &rr);
+    }
     limit + 1 - room.left
 }
 
-/// Whether the canonical text has at most so many octets. It is counted only where four times the
-/// octets of the records in messages are more.
+/// Whether the canonical text has at most so many octets. Lines are counted until those that are
+/// left surely fit: they have at most four times the octets of their records in messages.
+#[tactic(auto, using(crate::proofs::Lengths::moved_length))]
 fn text_fits_within(zone: &Zone, limit: u64) -> bool
     requires { limit ≤ text_limit }
     ensures { IsTrue result ↔ length (canon zone.now) ≤ limit }
 {
-    a_text_is_at_most_four_times_its_messages();
-    zone.message_len() <= limit / 4 || len_within(zone, limit) <= limit
+    let mut spare = Room { left: limit + 1 };
+    let mut uncounted = zone.message_len();
+    for rr in zone.unordered_records() {
+        if uncounted < spare.left / 4 {
+            return true;
+        }
+        let Ok(()) = push_line(&mut spare, &rr);
+        uncounted = uncounted.saturating_sub(message_len(&rr));
+    }
+    spare.left > 0
 }
 
 /// [`push_zone`] under a limit of the caller's.
@@ -153,7 +163,7 @@ fn write_lines<W: OctetWriter>(alloc: Global, zone: &Zone, writer: &mut W) -> Re
     ensures works { OnOk result (WorksOn (W.state writer.old) (W.state writer.new)) }
     ensures stopped { IfErr result (IsOfWriting (W.state writer.old) (W.state writer.new)) }
 {
-    let mut buffer = LineBuffer::new(alloc);
+    let mut buffer = LineBuffer::with_capacity(alloc, WRITE_LEN)?;
     for rr in zone.records() {
         buffer.push_record(rr)?;
         if buffer.len() >= WRITE_LEN {

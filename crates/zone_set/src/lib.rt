@@ -12,7 +12,6 @@ mod kept_records;
 mod keys;
 mod list;
 mod messages;
-mod offer;
 mod offered;
 mod order;
 mod owner;
@@ -27,6 +26,7 @@ mod unordered;
 mod zone;
 
 pub use list::ZoneList;
+pub use messages::message_len;
 pub use records::Records;
 pub use sets::ZoneBuilder;
 pub use unordered::UnorderedRecords;

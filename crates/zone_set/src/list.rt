@@ -17,7 +17,6 @@ use crate::entry::Entry;
 use crate::hint::{hint_of, told_front};
 use crate::kept_records::KeptRecords;
 use crate::messages::len_of_entries;
-use crate::offer::offer;
 use crate::places::Places;
 use crate::repeats::{FIRST_MARK, Groups, may_be_many};
 use crate::sets::ZoneBuilder;
@@ -122,66 +121,53 @@ impl ZoneList {
             → OtherClass (records_of self.new) (record_of rr.now) × Tells self.old self.new) }
         ensures kept { OnErr result (Tells self.old self.new) }
     {
-        self.drop_repeats_if_due()?;
+        if self.octets.len() >= self.mark {
+            self.drop_repeats()?;
+        }
         self.list(rr, place)
     }
 
-    /// Drops repeats, where as much is held as the mark says and there may be many.
-    ///
-    /// # Errors
-    ///
-    /// `AllocError` where memory is refused.
-    fn drop_repeats_if_due(&mut self) -> Result<(), AllocError>
-        ensures { Tells self.old self.new }
-    {
-        if self.octets.len() < self.mark {
-            return Ok(());
-        }
-        self.look_for_repeats()
-    }
-
-    /// Drops repeats, where there may be many, and sets the mark anew.
+    /// Drops repeats, as far as they are found, where there may be many, and sets the mark anew.
     ///
     /// # Errors
     ///
     /// `AllocError` where memory is refused.
     #[inline(never)]
-    fn look_for_repeats(&mut self) -> Result<(), AllocError>
+    fn drop_repeats(&mut self) -> Result<(), AllocError>
         ensures { Tells self.old self.new }
     {
         let mut growth = 8;
         if may_be_many(self.alloc, self.octets.as_slice(), self.entries.as_slice())? {
-            self.drop_repeats()?;
+            *self = self.without_repeats()?;
             growth = 2;
         }
         self.mark = FIRST_MARK.max(self.octets.len().saturating_mul(growth));
         Ok(())
     }
 
-    /// Drops repeats, as far as they are found.
+    /// The list without the repeats that are found.
     ///
     /// # Errors
     ///
-    /// `AllocError` where memory is refused. The list is unchanged.
-    fn drop_repeats(&mut self) -> Result<(), AllocError>
-        ensures { Tells self.old self.new }
+    /// `AllocError` where memory is refused.
+    fn without_repeats(&self) -> Result<ZoneList, AllocError>
+        ensures { IfOk result (Tells self.now) }
     {
+        let (octets, entries) = (self.octets.as_slice(), self.entries.as_slice());
         let front = told_front(self.base.wire().len());
-        let mut groups = Groups::new(
-            self.alloc,
-            self.octets.as_slice(),
-            self.entries.as_slice(),
-            front,
-        )?;
-        let packed = ZoneList::relist(
-            self.alloc,
-            self.class,
-            self.octets.as_slice(),
-            &self.places,
-            &mut groups,
-        )?;
-        *self = packed;
-        Ok(())
+        let mut groups = Groups::new(self.alloc, octets, entries, front)?;
+        let mut list = ZoneList::new(self.alloc);
+        for (rr, place) in KeptRecords::new(self.class, octets).zip(self.places.iter()) {
+            let number = groups.next_number();
+            if let Some(index) = groups.kept(number) {
+                if list.has(index, &rr) {
+                    continue;
+                }
+            }
+            groups.keep(number, list.entries.len());
+            list.push(&rr, place)?;
+        }
+        Ok(list)
     }
 
     /// Lists a record, and tells whether none of another class is listed. If one is, the list is
@@ -197,23 +183,12 @@ impl ZoneList {
             → OtherClass (records_of self.old) (record_of rr.now) × (self.new ≡ self.old)) }
         ensures unchanged { OnErr result (self.new ≡ self.old) }
     {
-        if self.has_other_class(rr) {
+        if !self.entries.is_empty() && self.class != rr.class {
             return Ok(false);
         }
         rr.known();
         self.push(rr, place)?;
         Ok(true)
-    }
-
-    /// Whether a record of another class is listed.
-    fn has_other_class(&self, rr: &RrRef<'_>) -> bool
-        ensures other { IsTrue result → OtherClass (records_of self.now) (record_of rr.now) }
-        ensures same { IsTrue result ⊎ AllByRecursion (λ p. p.rr.class ≡ rr.now.class) self.now }
-    {
-        if has_none(self.entries.as_slice()) {
-            return false;
-        }
-        self.class != rr.class
     }
 
     /// Lists a record of the class of those before it.
@@ -230,7 +205,7 @@ impl ZoneList {
     {
         // So that no record is kept in part.
         self.entries.reserve(1)?;
-        let is_first = has_none(self.entries.as_slice());
+        let is_first = self.entries.is_empty();
         first_decides(&mut self.class, &mut self.base, is_first, rr);
         let hint = hint_of(&self.base, &rr.owner, rr.kind);
         let at = append_with_place(&mut self.octets, &mut self.places, rr, place)?;
@@ -238,43 +213,14 @@ impl ZoneList {
         Ok(())
     }
 
-    /// Lists records anew, each with its place, but for those of which an equal one is listed: which
-    /// one that may be is told by groups.
-    ///
-    /// # Errors
-    ///
-    /// `AllocError` where memory is refused.
-    fn relist(
-        alloc: Global,
-        class: Class,
-        octets: &[u8],
-        places: &Places,
-        groups: &mut Groups,
-    ) -> Result<ZoneList, AllocError>
-        ghost records: { List Record }
-        requires { AreKept class octets.now records }
-        ensures { IfOk result (Tells (placed_at records places.now)) }
-    {
-        let mut list = ZoneList::new(alloc);
-        for (rr, place) in KeptRecords::new(class, octets).zip(places.iter()) {
-            let number = groups.next_number();
-            if list.has(groups.kept(number), &rr) {
-                continue;
-            }
-            groups.keep(number, list.entries.len());
-            list.push(&rr, place)?;
-        }
-        Ok(list)
-    }
-
     /// Whether the record of the entry at an index is this one.
-    fn has(&self, index: Option<usize>, rr: &RrRef<'_>) -> bool
+    fn has(&self, index: usize, rr: &RrRef<'_>) -> bool
         ensures { IsTrue result → Has (records_of self.now) (record_of rr.now) }
     {
-        let Some(entry) = entry_at(self.entries.as_slice(), index) else {
-            return false;
-        };
-        record_at(self.class, self.octets.as_slice(), entry.at).is_same(rr)
+        match self.entries.as_slice().get(index) {
+            Some(entry) => record_at(self.class, self.octets.as_slice(), entry.at).is_same(rr),
+            None => false,
+        }
     }
 
     /// The builder of all records.
@@ -326,6 +272,25 @@ fn settle_parts(
     offer(alloc, class, octets.as_slice(), &places)
 }
 
+/// Adds records one after another, in the order in which they came. This tells the first that is
+/// refused, where they can't stand together.
+///
+/// # Errors
+///
+/// `Refused` at the first record that `add` refuses; `Memory`.
+fn offer(alloc: Global, class: Class, octets: &[u8], places: &Places) -> Result<ZoneBuilder, Stop>
+    ghost records: { List Record }
+    requires { AreKept class octets.now records }
+    ensures taken { IfOk result (IsSettledAs (placed_at records places.now)) }
+    ensures refused { IfErr result (StopsSettling (placed_at records places.now)) }
+{
+    let mut builder = ZoneBuilder::new(alloc);
+    for (rr, place) in KeptRecords::new(class, octets).zip(places.iter()) {
+        builder.hold(&rr, place)?;
+    }
+    Ok(builder)
+}
+
 /// Appends the octets that keep a record and its place, and answers where the octets begin.
 ///
 /// # Errors
@@ -372,20 +337,4 @@ fn set_base(base: &mut Name, owner: &NameRef<'_>)
     ensures { base.new ≡ owner.now }
 {
     *base = owner.to_name();
-}
-
-/// Whether there is no entry.
-fn has_none(entries: &[Entry]) -> bool
-    ensures { IsTrue result ↔ (entries.now ≡ []) }
-{
-    entries.is_empty()
-}
-
-/// The entry at an index, if one is given and there is one.
-fn entry_at(entries: &[Entry], index: Option<usize>) -> Option<Entry>
-    ensures { IfSome result (λ e. (k : ℕ) × (rest : List Entry) × (drop k entries.now ≡ e ∷ rest)) }
-{
-    let (_, from) = entries.split_at_checked(index?)?;
-    let (entry, _) = from.split_first()?;
-    Some(*entry)
 }

@@ -14,15 +14,11 @@ pub(crate) fn tie_order(octets: &[u8], a: usize, b: usize) -> Ordering {
     let (Some(x), Some(y)) = (stored_at(octets, a), stored_at(octets, b)) else {
         return Ordering::Equal;
     };
-    match owner_order(x.owner, y.owner) {
-        Ordering::Equal if x.kind == y.kind => match octet_order(x.data, y.data) {
-            // Repeats of two TTLs that take turns must come to stand together.
-            Ordering::Equal => x.ttl.cmp(&y.ttl),
-            data => data,
-        },
-        Ordering::Equal => x.kind.cmp(&y.kind),
-        owners => owners,
-    }
+    owner_order(x.owner, y.owner)
+        .then_with(|| x.kind.cmp(&y.kind))
+        .then_with(|| octet_order(x.data, y.data))
+        // Repeats of two TTLs that take turns must come to stand together.
+        .then_with(|| x.ttl.cmp(&y.ttl))
 }
 
 /// What is compared of a record.

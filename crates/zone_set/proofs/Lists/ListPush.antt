@@ -1,5 +1,5 @@
 -- Records that are listed with their places, and one more of them.
-use Rattle.zone_set.proofs.Common.{AllByRecursion, AllByRecursion-append, AreKept, Bool, Entry, IsEntry, IsHint, IsRecord, IsTrue, KeepsList, List, OtherClass, Place, Placed, Record, [], all_records, ap, append-nil, ap₂, arith, entry_record, eq-eqb, false, if◌then◌else◌, inl, inr, length, length-append, length-map, listed, map-append, ne_eqb, not, placed_at, records_of, refl, stored, subst, sym, true, ⊎_elim, ℕ, ◌++◌, ◌==◌, ◌↔◌, ◌∙◌, ◌∷◌, ◌≡◌, ◌≢◌, ◌⊎◌}
+use Rattle.zone_set.proofs.Common.{AllByRecursion, AllByRecursion-append, AreKept, Bool, Entry, IsEntry, IsHint, IsRecord, IsTrue, KeepsList, List, OtherClass, Place, Placed, Record, [], all_records, ap, append-nil, ap₂, arith, entry_record, eq-eqb, eqb-true, false, if◌then◌else◌, inl, inr, length, length-append, length-map, listed, map-append, ne_eqb, not, placed_at, records_of, refl, stored, subst, sym, true, ⊎_elim, ℕ, ◌++◌, ◌==◌, ◌↔◌, ◌∙◌, ◌∷◌, ◌≡◌, ◌≢◌, ◌⊎◌}
 use Rattle.std.proofs.lemmas.Grind.{flat_map-append}
 use Rattle.zone_set.proofs.Holding.Adding.{classes, other_class_told}
 use Rattle.zone_set.proofs.Storage.Storing.{each_kept, records_kept, entry_appended, record_appended}
@@ -45,6 +45,11 @@ module _ {class : ℕ} {base : List (List ℕ)} {octets : List ℕ} {es : List E
   -- whether the class of what is listed is that of a record
   pub other_listed : (told : Bool) (r : Record) → es ≢ [] → told ≡ not (class == r.class) → IsTrue told → OtherClass (records_of (listed class octets es ps)) r
   other_listed told r some is other = rw records_listed ((other_class_told told class octets es r some is).0 other)
+
+-- whether no entry is listed
+pub none_told : (told : Bool) (count : ℕ) (es : List Entry) → told ≡ (count == 0) → count ≡ length es → IsTrue told ↔ (es ≡ [])
+none_told told count [] is counts = (λ yes. refl, λ none. grind (arith, is, counts, eq-eqb))
+none_told told count (e ∷ es) is counts = (λ yes. grind (arith, is, counts, eqb-true), λ none. grind arith)
 
 class_told : (told : Bool) (class own : ℕ) → told ≡ not (class == own) → IsTrue told ⊎ (class ≡ own)
 class_told told class own is = grind (arith, eq-eqb, ne_eqb)

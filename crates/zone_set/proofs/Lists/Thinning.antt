@@ -1,9 +1,8 @@
 -- Records of which repeats were dropped: what is kept tells of what was given the same.
 use Rattle.std.specs.Prelude.{IfOk}
-use Rattle.zone_set.proofs.Common.{Bool, Err, Ok, Result, true, Accepts, AllAccepted, AllByRecursion, AllByRecursion-back, Entry, IsEntry, all_records, drop, entry_record, placed_at, suc, zero, ℕ, Fault, Has, InOneSet, IsRefusedFor, IsSettledAs, List, OtherClass, Place, Placed, Record, SameRecords, Stop, StopsSettling, [], ap, append-nil, append_assoc, arith, inl, inr, map-append, records_of, refl, subst, sym, ⊎_elim, ◌++◌, ◌↔◌, ◌∙◌, ◌∷◌, ◌≡◌, ◌≢◌, ◌⊎◌}
+use Rattle.zone_set.proofs.Common.{Bool, Err, Ok, Result, true, Accepts, AllAccepted, AllByRecursion, AllByRecursion-back, Entry, all_records, drop, entry_record, placed_at, suc, zero, ℕ, Fault, Has, InOneSet, IsRefusedFor, IsSettledAs, List, OtherClass, Place, Placed, Record, SameRecords, Stop, StopsSettling, [], ap, append-nil, append_assoc, arith, inl, inr, map-append, records_of, refl, subst, sym, ⊎_elim, ◌++◌, ◌↔◌, ◌∙◌, ◌∷◌, ◌≡◌, ◌≢◌, ◌⊎◌}
 use Rattle.zone_set.proofs.Holding.Together.{flipped}
 use Rattle.zone_set.proofs.Lists.ListPush.{all_taken}
-use Rattle.zone_set.proofs.Lists.Looking.{each_drop}
 use Rattle.zone_set.proofs.Ordering.Between.{Has-append}
 use Rattle.zone_set.specs.Builder as builder
 use Rattle.zone_set.specs.Refusal.{IsFirstRefused}
@@ -216,9 +215,6 @@ has_entry class octets [] zero e rest is = grind arith
 has_entry class octets [] (suc k) e rest is = grind arith
 has_entry class octets (x ∷ es) zero e rest is = inl cc
 has_entry class octets (x ∷ es) (suc k) e rest is = inr (has_entry class octets es k e rest is)
-
-pub is_entry : (base : List (List ℕ)) (class : ℕ) (octets : List ℕ) (es : List Entry) (k : ℕ) (e : Entry) (rest : List Entry) → AllByRecursion (IsEntry base class octets) es → drop k es ≡ e ∷ rest → IsEntry base class octets e
-is_entry base class octets es k e rest each is = (subst (AllByRecursion (IsEntry base class octets)) is (each_drop (IsEntry base class octets) k es each)).0
 
 -- some first records are told by what is kept, and these are left with their places
 pub record HasThinned (placed kept : List Placed) (records : List Record) (places : List Place) : Type 0 where

@@ -11,5 +11,5 @@ returns-then-alone g c = rw (alone_len c.args.class c.args.octets.now c.args.ent
 pub returns : goal.returns
 returns g c =
     let left : c.loop-entry.left.now ≡ [] = nil_from_length c.loop-entry.left.now c.in_default.ensures.cases in
-    at_end c.loop-entry.message_len (message_octets (all_records c.args.class c.args.octets.now c.args.entries.now)) c.loop-entry.invariant.1
-    (subst (λ l. min (c.loop-entry.message_len + message_octets (all_records c.args.class c.args.octets.now l)) (2 ^ 64 - 1) ≡ min (message_octets (all_records c.args.class c.args.octets.now c.args.entries.now)) (2 ^ 64 - 1)) left c.loop-entry.invariant.2)
+    at_end c.loop-entry.octet_count (message_octets (all_records c.args.class c.args.octets.now c.args.entries.now)) c.loop-entry.invariant.1
+    (subst (λ l. min (c.loop-entry.octet_count + message_octets (all_records c.args.class c.args.octets.now l)) (2 ^ 64 - 1) ≡ min (message_octets (all_records c.args.class c.args.octets.now c.args.entries.now)) (2 ^ 64 - 1)) left c.loop-entry.invariant.2)

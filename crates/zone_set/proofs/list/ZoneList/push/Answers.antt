@@ -1,6 +1,6 @@
 use Rattle.zone_set.proofs.Common.{Entry, KeepsList, List, Place, Placed, Record, [], ap, listed, record_of, subst, sym, ℕ, ◌++◌, ◌∙◌, ◌∷◌, ◌≡◌}
 use Rattle.zone_set.proofs.Holding.Adding.{on_err}
-use Rattle.zone_set.proofs.Lists.ListPush.{decided, Decided, listed_more, KeepsList-more}
+use Rattle.zone_set.proofs.Lists.ListPush.{decided, Decided, listed_more, KeepsList-more, none_told}
 use Rattle.zone_set.proofs.list.ZoneList.push.Goals as goal
 use Rattle.zone_set.proofs.list.ZoneList.push.Goals.{After-first_decides}
 
@@ -14,7 +14,7 @@ abbrev octs : After-first_decides → List ℕ
 octs c = c.self.inside.octets.items
 
 settled : (c : After-first_decides) → Decided c.first_decides.new.class c.args.rr.now.class c.first_decides.new.base (octs c) (es c) (ps c) (listed c.self.inside.class (octs c) (es c) (ps c))
-settled c = decided c.self.inside.class c.first_decides.new.class c.args.rr.now.class c.self.inside.base c.first_decides.new.base c.args.rr.now.owner (octs c) (es c) (ps c) c.has_none-is_first.result (rw (c.as_slice.ensures.value, c.reserve.ensures.items) at c.has_none-is_first.ensures) c.first_decides.ensures.class c.first_decides.ensures.base (rw c.self.view_is c.requires.class) c.self.invariant
+settled c = decided c.self.inside.class c.first_decides.new.class c.args.rr.now.class c.self.inside.base c.first_decides.new.base c.args.rr.now.owner (octs c) (es c) (ps c) c.is_empty-is_first.result (rw c.reserve.ensures.items at (none_told c.is_empty-is_first.result _ _ c.is_empty-is_first.ensures c.reserve.new.self.ok.0)) c.first_decides.ensures.class c.first_decides.ensures.base (rw c.self.view_is c.requires.class) c.self.invariant
 
 pub invariant_of-self-in_err-at : goal.invariant_of-self-in_err-at
 invariant_of-self-in_err-at c =

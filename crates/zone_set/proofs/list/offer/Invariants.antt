@@ -1,7 +1,7 @@
 use Rattle.std.specs.Iterator.Adapters.{zip_first, zip_second}
 use Rattle.zone_set.proofs.Common.{placed_at}
 use Rattle.zone_set.proofs.Lists.Offering.{HasOffered}
-use Rattle.zone_set.proofs.offer.offer.Given as goal
+use Rattle.zone_set.proofs.list.offer.Given as goal
 
 -- some first records were added, and the others are left with their places
 abbrev pub invariant-loop-rr : goal.invariant-loop-rr

@@ -1,7 +1,7 @@
 use Rattle.zone_set.proofs.Common.{[], AllByRecursion, IsRecord, Placed, err_from_is_err_and, inl, inr, placed_at, record_of, ⊎_elim}
 use Rattle.zone_set.proofs.Lists.ListPush.{each_placed}
 use Rattle.zone_set.proofs.Lists.Offering.{HasOffered-more, StopsSettling-now, IsSettledAs-at_end}
-use Rattle.zone_set.proofs.offer.offer.Goals as goal
+use Rattle.zone_set.proofs.list.offer.Goals as goal
 
 pub loop-rr-init : goal.loop-rr-init
 loop-rr-init g c =
