@@ -1,10 +1,11 @@
 -- How many octets lines have, against those that their records take in messages.
-use Rattle.zone_print.proofs.Common.{common_steps, refl, sym, ◌∙◌, ◌≡◌, ℕ, ◌+◌, ◌-◌, ◌*◌, ◌^◌, ◌<◌, ◌≤◌, ◌/◌, List, [], ◌∷◌, ◌++◌, length, decimal, arith, length-append, AllByRecursion, name_text, Record, IsRecord, data_of, data_text, class_text, kind_text, line, lines}
+use Rattle.zone_print.proofs.Common.{common_steps, refl, sym, ◌∙◌, ◌≡◌, ℕ, ◌+◌, ◌*◌, ◌^◌, ◌<◌, ◌≤◌, ◌/◌, List, [], ◌∷◌, ◌++◌, length, decimal, arith, length-append, AllByRecursion, name_text, Record, IsRecord, data_of, data_text, class_text, kind_text, line, lines}
 use Rattle.std.proofs.lemmas.Fmt.{length-decimal-le}
-use Rattle.std.proofs.lemmas.List.Sorted.{sum_by-IsPermutation}
+use Rattle.std.proofs.lemmas.List.Sorted.{All-permutation, IsPermutation-sym, sum_by-IsPermutation}
 use Rattle.std.proofs.lemmas.List.Sums.{sum_by-cons}
+use Rattle.zone_set.proofs.Common.{All-from_recursion, recursion_from_All}
 use Rattle.std.specs.List.{sum_by}
-use Rattle.std.specs.Prelude.{min}
+use Rattle.std.specs.Prelude.{min, ◌-◌}
 use Rattle.std.specs.List.Sorted.{IsPermutation}
 use Rattle.zone_name.proofs.Texts.Lengths.{name_text_length}
 use Rattle.zone_rdata.proofs.Texts.TextLengths.{class_length, data_text_length, kind_length}
@@ -55,16 +56,19 @@ pub record IsCounted (whole limit : ℕ) (left : List Record) (spare uncounted :
   pub few : taken ≤ 131072 * counted
   pub rest : uncounted ≡ min (taken + message_octets left) (2 ^ 64 - 1) - taken
 
-pub IsCounted-first : (whole limit : ℕ) (records : List Record) → AllByRecursion IsRecord records → length (lines records) ≡ whole → IsCounted whole limit records (limit + 1) (min (message_octets records) (2 ^ 64 - 1))
-IsCounted-first whole limit records each is = record {
-  counted = 0;
-  taken = 0;
-  each = each;
-  parts = omega (arith, is);
-  spares = omega arith;
-  few = omega arith;
-  rest = omega arith;
-}
+-- at first none was, of a list in any order
+pub IsCounted-first : (limit : ℕ) (moved records : List Record) → AllByRecursion IsRecord records → IsPermutation moved records → IsCounted (length (lines records)) limit moved (limit + 1) (min (message_octets records) (2 ^ 64 - 1))
+IsCounted-first limit moved records each moves =
+    let same = sum_by-IsPermutation message_len moved records moves in
+    record {
+      counted = 0;
+      taken = 0;
+      each = recursion_from_All IsRecord moved (All-permutation IsRecord records moved (IsPermutation-sym moved records moves) (All-from_recursion IsRecord records each));
+      parts = omega (arith, moved_length moved records moves);
+      spares = omega arith;
+      few = omega arith;
+      rest = omega (arith, same);
+    }
 
 pub IsCounted-more : (whole limit : ℕ) (r : Record) (left : List Record) (spare uncounted : ℕ) → IsCounted whole limit (r ∷ left) spare uncounted → IsCounted whole limit left (spare - length (line r)) (uncounted - message_len r)
 IsCounted-more whole limit r left spare uncounted was = record {

@@ -48,6 +48,19 @@ impl<'z> Model for LineBuffer<'z> {
 }
 
 impl<'z> LineBuffer<'z> {
+    /// No line.
+    pub(crate) fn new(alloc: Global) -> LineBuffer<'z>
+        ensures { result ≡ [] }
+    {
+        LineBuffer {
+            octets: TextBuffer::new(alloc),
+            last: None,
+            owner: TextBuffer::new(alloc),
+            middle: TextBuffer::new(alloc),
+            before_kind: 0,
+        }
+    }
+
     /// No line, with room for lines of so many octets.
     ///
     /// # Errors

@@ -82,7 +82,6 @@ fn len_within(zone: &Zone, limit: u64) -> u64
 
 /// Whether the canonical text has at most so many octets. Lines are counted until those that are
 /// left surely fit: they have at most four times the octets of their records in messages.
-#[tactic(auto, using(crate::proofs::Lengths::moved_length))]
 fn text_fits_within(zone: &Zone, limit: u64) -> bool
     requires { limit ≤ text_limit }
     ensures { IsTrue result ↔ length (canon zone.now) ≤ limit }
@@ -163,7 +162,7 @@ fn write_lines<W: OctetWriter>(alloc: Global, zone: &Zone, writer: &mut W) -> Re
     ensures works { OnOk result (WorksOn (W.state writer.old) (W.state writer.new)) }
     ensures stopped { IfErr result (IsOfWriting (W.state writer.old) (W.state writer.new)) }
 {
-    let mut buffer = LineBuffer::with_capacity(alloc, WRITE_LEN)?;
+    let mut buffer = LineBuffer::new(alloc);
     for rr in zone.records() {
         buffer.push_record(rr)?;
         if buffer.len() >= WRITE_LEN {

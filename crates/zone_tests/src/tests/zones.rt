@@ -8,7 +8,7 @@ use test_support::{
 };
 use zone_print::{canon_len, push_zone, text_fits, write_zone};
 use zone_rdata::{Fault, Place, Placed, Reading, Stop};
-use zone_set::{Zone, ZoneBuilder, ZoneList};
+use zone_set::{Zone, ZoneBuilder, ZoneList, message_len};
 use zone_text::read_file;
 
 /// The records of a file under the origin `x.`.
@@ -58,13 +58,15 @@ fn push_head(alloc: Global, out: &mut Vec<u8>, zone: &Zone) -> Result<(), Fail> 
 
 /// Appends type, TTL and data of each record of a zone.
 fn push_records(alloc: Global, out: &mut Vec<u8>, zone: &Zone) -> Result<(), Fail> {
+    let mut octets = 0u64;
     for rr in zone.records() {
         let (kind, ttl) = (rr.kind.number(), rr.ttl);
         push_words(alloc, out, format_args!("TYPE{kind} {ttl} "))?;
         push_hex(alloc, out, rr.rdata.octets())?;
         push_text(out, "\n")?;
+        octets = octets.saturating_add(message_len(&rr));
     }
-    Ok(())
+    check(octets == zone.message_len(), "each record takes its octets")
 }
 
 /// Appends the text of a zone, which is written as it is appended.

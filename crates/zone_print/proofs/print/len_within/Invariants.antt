@@ -1,5 +1,6 @@
 -- What was counted and the lines that are left are the text.
-use Rattle.zone_print.proofs.Common.{canon, length, lines, ℕ, ◌+◌, ◌-◌, ◌≡◌}
+use Rattle.zone_print.proofs.Common.{canon, length, lines, ℕ, ◌+◌, ◌≡◌}
+use Rattle.std.specs.Prelude.{◌-◌}
 use Rattle.zone_print.proofs.print.len_within.Given as goal
 
 abbrev pub invariant-loop-rr : goal.invariant-loop-rr
