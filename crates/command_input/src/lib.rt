@@ -4,9 +4,9 @@
 
 mod line_fault;
 mod origin;
-pub mod status;
 mod telling;
 
 pub use line_fault::LineFault;
 pub use origin::{origin_fault, origin_of};
 pub use telling::{refuse, refuse_saying, report};
+pub use zone_engine::status;

@@ -2,10 +2,9 @@
 ghost use Rattle.std.specs.Prelude.{◌≡◌, ◌++◌};
 ghost use Rattle.command_input.specs.LineFault.{line_status, line_text};
 
-use crate::status;
 use command_line::NoCall;
 use std::alloc::AllocError;
-use zone_engine::OUT_OF_MEMORY;
+use zone_engine::{OUT_OF_MEMORY, status};
 
 /// Why a command line is no order.
 #[derive(Debug, Drop)]

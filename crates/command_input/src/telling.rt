@@ -4,8 +4,7 @@ ghost use Rattle.command_input.specs.LineFault.{bad_origin_line, line_status, li
 ghost use Rattle.zone_engine.specs.Telling.{stop_line, stop_status, TellsLine};
 
 use crate::line_fault::LineFault;
-use crate::status;
-use zone_engine::{OUT_OF_MEMORY, READ_FAILED, WRITE_FAILED, tell, tell_refusal};
+use zone_engine::{OUT_OF_MEMORY, READ_FAILED, WRITE_FAILED, status, tell, tell_refusal};
 use zone_print::OctetWriter;
 use zone_rdata::Stop;
 

@@ -1,10 +1,6 @@
-ghost use Rattle.std.specs.Prelude.{◌≡◌, ◌++◌, IfErr, OnErr, OnOk};
-ghost use Rattle.zone_print.specs.Device.{WorksOn};
-ghost use Rattle.zone_print.specs.Writing.{IsFailedWrite};
 ghost use Rattle.zone_command.specs.Machine.Telling.{TellsVerdict};
 ghost use Rattle.zone_command.specs.Run.{devices, ReadsSecond, Runs};
 ghost use Rattle.zone_engine.specs.Reading.{ReadsFew};
-ghost use Rattle.zone_engine.specs.Telling.{stop_line, stop_status, verdict_line, verdict_status, TellsLine, WritesLine, WritesPartOfLine};
 
 use crate::order::Order;
 use command_input::{report, status};
@@ -12,7 +8,6 @@ use itoa::Buffer;
 use std::alloc::Global;
 use zone_engine::{Form, OctetReader, Verdict, compare, explain, normalise, write_line};
 use zone_print::OctetWriter;
-use zone_rdata::Stop;
 
 /// The exit status of a comparison of two zones that differ.
 const DIFFERENT: u8 = 1;
@@ -68,7 +63,7 @@ pub fn run<R1: OctetReader, R2: OctetReader, W: OctetWriter, E: OctetWriter>(
     }
 }
 
-/// Tells the verdict of a comparison, and answers its status.
+/// Writes the line of a verdict, and answers its status. It takes no memory.
 fn tell_verdict<W: OctetWriter, E: OctetWriter>(
     verdict: Verdict,
     output: &mut W,
@@ -77,40 +72,13 @@ fn tell_verdict<W: OctetWriter, E: OctetWriter>(
     ensures { TellsVerdict verdict (W.state output.old) (W.state output.new)
         (E.state errors.old) (E.state errors.new) result }
 {
-    match write_verdict(verdict, output) {
-        Ok(()) => status_of(verdict),
+    let mut digits = Buffer::new();
+    let (words, line, answer) = match verdict {
+        Verdict::Same => ("", "same", status::SUCCESS),
+        Verdict::Different(line) => ("different at line ", digits.format(line), DIFFERENT),
+    };
+    match write_line(output, words, line) {
+        Ok(()) => answer,
         Err(stop) => report("", &stop, errors),
-    }
-}
-
-/// Writes the line of a verdict, without taking memory.
-///
-/// # Errors
-///
-/// `Write` where the writer failed. A proper prefix of the line was written.
-fn write_verdict<W: OctetWriter>(verdict: Verdict, output: &mut W) -> Result<(), Stop>
-    ensures written { OnOk result
-        (WritesLine (verdict_line verdict) (W.state output.old) (W.state output.new)) }
-    ensures part { OnErr result
-        (WritesPartOfLine (verdict_line verdict) (W.state output.old) (W.state output.new)) }
-    ensures works { OnOk result (WorksOn (W.state output.old) (W.state output.new)) }
-    ensures failed { IfErr result (IsFailedWrite (W.state output.old) (W.state output.new)) }
-{
-    match verdict {
-        Verdict::Same => write_line(output, "", "same"),
-        Verdict::Different(line) => {
-            let mut digits = Buffer::new();
-            write_line(output, "different at line ", digits.format(line))
-        }
-    }
-}
-
-/// The exit status of a comparison.
-fn status_of(verdict: Verdict) -> u8
-    ensures { result ≡ verdict_status verdict }
-{
-    match verdict {
-        Verdict::Same => status::SUCCESS,
-        Verdict::Different(_) => DIFFERENT,
     }
 }

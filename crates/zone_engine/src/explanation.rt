@@ -10,16 +10,11 @@ use crate::engine::accepted_zone;
 use crate::form::Form;
 use crate::line::{write_line, write_refusal};
 use crate::octets::OctetReader;
+use crate::status;
 use itoa::Buffer;
 use std::alloc::{AllocError, Global};
 use zone_print::OctetWriter;
 use zone_rdata::{Fault, Place, Stop};
-
-/// The answer of [`explain`] to an input that is accepted.
-const ACCEPTED: u8 = 0;
-
-/// Its answer to an input that is refused.
-const REFUSED: u8 = 3;
 
 /// What a user is told where reading failed.
 pub const READ_FAILED: &str = "read failed";
@@ -58,11 +53,11 @@ pub fn explain<R: OctetReader, W: OctetWriter>(
         Ok(zone) => {
             let mut digits = Buffer::new();
             write_line(writer, "accepted, records: ", digits.format(zone.len()))?;
-            Ok(ACCEPTED)
+            Ok(status::SUCCESS)
         }
         Err(Stop::Refused(fault, place)) => {
             write_refusal(writer, "", &fault, place)?;
-            Ok(REFUSED)
+            Ok(status::REFUSED)
         }
         Err(stop) => Err(stop),
     }

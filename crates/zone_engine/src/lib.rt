@@ -13,6 +13,7 @@ pub mod laws;
 mod line;
 mod loader;
 mod octets;
+pub mod status;
 
 pub use comparison::{CompareError, Verdict, Which, compare, compare_bytes};
 pub use engine::{accepted_bytes, accepted_zone, accepted_zone_within, normalise, normalise_bytes};

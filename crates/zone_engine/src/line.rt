@@ -4,6 +4,7 @@ ghost use Rattle.zone_print.specs.Device.{WorksOn};
 ghost use Rattle.zone_print.specs.Writing.{IsFailedWrite};
 ghost use Rattle.zone_engine.specs.Telling.{refusal_line, TellsLine, WritesLine, WritesPartOfLine};
 
+use crate::status;
 use zone_print::{OctetWriter, write_octets};
 use zone_rdata::{Fault, Place, Stop, line_of_refusal};
 
@@ -61,9 +62,6 @@ fn write_octet_line<W: OctetWriter>(writer: &mut W, words: &[u8], line: &[u8]) -
     write_octets(writer, b"\n")
 }
 
-/// The exit status of a program whose line could not be told.
-const FAILED: u8 = 4;
-
 /// Writes these words and the line, and answers this status: 4 where the writer failed.
 pub fn tell<E: OctetWriter>(errors: &mut E, words: &str, line: &str, answer: u8) -> u8
     ensures { TellsLine (words.now ++ line.now) answer
@@ -94,6 +92,6 @@ fn answered(written: Result<(), Stop>, answer: u8) -> u8
 {
     match written {
         Ok(()) => answer,
-        Err(_) => FAILED,
+        Err(_) => status::FAILED,
     }
 }
