@@ -89,19 +89,9 @@ fn push_octets(octets: &mut ArrayVec<u8, LENGTH>, added: &[u8]) -> Option<()>
     octets.try_extend_from_slice(added).ok()
 }
 
-/// Appends a group's octets. `None`: the text is no group, or there is no room.
-fn push_group(octets: &mut ArrayVec<u8, LENGTH>, text: &[u8]) -> Option<()>
-    ensures some { OnSome result
-        (AppendsSome (IsGroupOf text.now) octets.old.items octets.new.items) }
-    ensures none { IfNone result (NoneFits (IsGroupOf text.now) octets.old.items) }
-{
-    let group = group_of(text)?;
-    push_octets(octets, &group)
-}
-
 /// Appends the octets of a group or, where `ends` is so, of four decimal numbers. `None`: the text
 /// is neither, or there is no room.
-fn push_last(octets: &mut ArrayVec<u8, LENGTH>, text: &[u8], ends: bool) -> Option<()>
+fn push_part(octets: &mut ArrayVec<u8, LENGTH>, text: &[u8], ends: bool) -> Option<()>
     ensures some { OnSome result
         (AppendsSome (IsLastPartOf ends text.now) octets.old.items octets.new.items) }
     ensures none { IfNone result (NoneFits (IsLastPartOf ends text.now) octets.old.items) }
@@ -130,10 +120,10 @@ pub(super) fn octets_of_parts(text: &[u8], ends: bool) -> Option<ArrayVec<u8, LE
     }
     let mut rest = text;
     while let Some((group, after)) = cut_at(rest, b':') {
-        push_group(&mut octets, group)?;
+        push_part(&mut octets, group, false)?;
         rest = after;
     }
-    push_last(&mut octets, rest, ends)?;
+    push_part(&mut octets, rest, ends)?;
     Some(octets)
 }
 

@@ -1,6 +1,6 @@
 use Rattle.zone_rdata.proofs.Common.{inl, inr, if_none_any, if_none_weaker}
 use Rattle.zone_rdata.proofs.Addresses.AddressParts.{part_full, part_refused}
-use Rattle.zone_rdata.proofs.address.groups.push_last.Goals as goal
+use Rattle.zone_rdata.proofs.address.groups.push_part.Goals as goal
 
 pub returns-in-Some-clause-none : goal.returns-in-Some-clause-none
 returns-in-Some-clause-none c = if_none_weaker _ _ _ (part_full c.args.ends c.args.text.now _ c.args.octets.now.items (inl c.in-Some.ensures.found)) c.push_octets.ensures.none
