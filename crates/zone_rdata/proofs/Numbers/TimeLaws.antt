@@ -1,5 +1,5 @@
 -- Times: a text has one reading, octet by octet, and states one time or none.
-use Rattle.zone_rdata.proofs.Common.{[], ◌≡◌, ℕ, ◌+◌, ◌*◌, ◌<◌, ◌⊎◌, min, true, false, List, ◌∷◌, ◌++◌, length, Option, Some, refl, sym, ap, ◌∙◌, subst, arith, append_assoc, length-append, IsTrue, take, drop, get_or, inl, inr, AllByRecursion, flat_map, flat_map-append, sum_by, append-nil, take-append-drop, drop_more, nat_tests, is_digit, decimal_value, Group, IsTimeGroup, group_text, group_seconds, unit_seconds, IsTime, plain, grouped, common_steps, sum_by-append, ReadsTime, IsDecimal, None, ◌-◌, AllByRecursion-append, Choice, Decided, true_or_not}
+use Rattle.zone_rdata.proofs.Common.{[], ◌≡◌, ℕ, ◌+◌, ◌*◌, ◌<◌, ◌⊎◌, min, true, false, List, ◌∷◌, ◌++◌, length, Option, Some, refl, sym, ap, ◌∙◌, subst, arith, append_assoc, length-append, take, drop, get_or, inl, inr, AllByRecursion, flat_map, flat_map-append, sum_by, append-nil, take-append-drop, drop_more, nat_tests, is_digit, decimal_value, Group, IsTimeGroup, group_text, group_seconds, unit_seconds, IsTime, plain, grouped, common_steps, sum_by-append, ReadsTime, IsDecimal, None, ◌-◌, AllByRecursion-append, Choice, Decided, true_or_not}
 use Rattle.std.proofs.lemmas.List.{take_more}
 use Rattle.std.specs.Option.{is_some, unwrap_or}
 use Rattle.zone_rdata.specs.Machine.TimeProgress.{number_of}
