@@ -1,5 +1,5 @@
 ghost use Rattle.hex.specs.Hex.{decode_sized, hex_digit_value, pair_value};
-ghost use Rattle.std.specs.Prelude.{◌≡◌, ◌≢◌, ◌+◌, ◌<◌, ◌≤◌, ◌++◌, ◌∷◌, [], ℕ, length, IfSome, IfNone, OnSome, Ok};
+ghost use Rattle.std.specs.Prelude.{◌≡◌, ◌≢◌, ◌≤◌, ◌∷◌, [], ℕ, length, IfSome, IfNone, OnSome, Ok};
 ghost use Rattle.zone_name.specs.Common.{NothingIs, Octets};
 ghost use Rattle.zone_rdata.specs.Address.{AreFourGroups, ArePartsOf};
 ghost use Rattle.zone_rdata.specs.Machine.AddressReading.{AppendsSome, IsGroupOf, IsLastPartOf, NoneFits, value_or_255};
@@ -81,14 +81,6 @@ fn digit_value(octet: u8) -> u8
     DIGIT_VALUES[octet as usize]
 }
 
-/// Appends octets. `None`: there is no room.
-fn push_octets(octets: &mut ArrayVec<u8, LENGTH>, added: &[u8]) -> Option<()>
-    ensures some { OnSome result (octets.new.items ≡ octets.old.items ++ added.now) }
-    ensures none { IfNone result (LENGTH < length octets.old.items + length added.now) }
-{
-    octets.try_extend_from_slice(added).ok()
-}
-
 /// Appends the octets of a group or, where `ends` is so, of four decimal numbers. `None`: the text
 /// is neither, or there is no room.
 fn push_part(octets: &mut ArrayVec<u8, LENGTH>, text: &[u8], ends: bool) -> Option<()>
@@ -97,13 +89,13 @@ fn push_part(octets: &mut ArrayVec<u8, LENGTH>, text: &[u8], ends: bool) -> Opti
     ensures none { IfNone result (NoneFits (IsLastPartOf ends text.now) octets.old.items) }
 {
     if let Some(group) = group_of(text) {
-        return push_octets(octets, &group);
+        return octets.try_extend_from_slice(&group).ok();
     }
     if !ends {
         return None;
     }
     let numbers = ipv4_octets_of(text)?;
-    push_octets(octets, &numbers)
+    octets.try_extend_from_slice(&numbers).ok()
 }
 
 /// The octets of groups parted by colons, at most sixteen; where `ends` is so, the last two groups
