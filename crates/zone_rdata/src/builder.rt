@@ -1,4 +1,5 @@
 ghost use Rattle.std.specs.Prelude.{◌≡◌, ◌↔◌, [], ◌≤◌, length, IsTrue, IfOk, IfErr, IfSome, IfNone, OnOk, OnErr, option_map};
+ghost use Rattle.zone_name.specs.Common.{AreOctets};
 ghost use Rattle.zone_rdata.specs.Builder.{Built, IsNext, IsPushFault, IsWhole, Pushes};
 ghost use Rattle.zone_rdata.specs.Machine.Building.{Grows, IsOver, IsReal};
 ghost use Rattle.zone_rdata.specs.Part.{value_of};
@@ -177,7 +178,6 @@ impl RdataBuilder {
         if !is_next(self.fields, self.count, part) {
             return Err(NarrowFailing::of(Cause::BadRdata));
         }
-        known(part);
         append(part, &mut self.octets)?;
         self.count += 1;
         Ok(())
@@ -252,23 +252,11 @@ fn is_next(layout: Option<Layout>, count: usize, part: Part) -> bool
     }
 }
 
-/// What holds of every part.
-fn known(part: Part)
-    ensures { IsReal (value_of part.entry) }
-{
-    match part {
-        Part::Octets(octets) | Part::String(octets) => are_octets(octets),
-        Part::Name(name) => {
-            let _ = name.wire();
-        }
-        Part::U16(_) | Part::U32(_) => {}
-    }
-}
-
 /// Appends the octets of a part. If it is refused, `out` is unchanged.
 #[tactic(auto, using(crate::proofs::Octets::Building::over_as))]
 fn append(part: Part, out: &mut Vec<u8>) -> Result<(), NarrowFailing>
     requires { length out.old.items ≤ LONGEST_DATA }
+    ensures real { IsReal (value_of part.entry) }
     ensures ok { OnOk result (Grows out.old.items (value_of part.entry) out.new.items) }
     ensures fault { IfErr result (IfFault (IsOver out.old.items (value_of part.entry))) }
     ensures err { OnErr result (out.new.items ≡ out.old.items) }
@@ -286,10 +274,12 @@ fn append(part: Part, out: &mut Vec<u8>) -> Result<(), NarrowFailing>
 #[tactic(auto, using(crate::specs::Machine::Building::over_data))]
 fn append_octets(octets: &[u8], out: &mut Vec<u8>) -> Result<(), NarrowFailing>
     requires { length out.old.items ≤ LONGEST_DATA }
+    ensures each { AreOctets octets.now }
     ensures ok { OnOk result (Grows out.old.items (fixed octets.now) out.new.items) }
     ensures fault { IfErr result (IfFault (IsOver out.old.items (fixed octets.now))) }
     ensures err { OnErr result (out.new.items ≡ out.old.items) }
 {
+    are_octets(octets);
     if octets.len() > LONGEST_DATA - out.len() {
         return Err(NarrowFailing::of(Cause::RdataTooLong));
     }
@@ -301,10 +291,12 @@ fn append_octets(octets: &[u8], out: &mut Vec<u8>) -> Result<(), NarrowFailing>
 #[tactic(auto, using(crate::proofs::Octets::Building::strings_over))]
 fn append_string(octets: &[u8], out: &mut Vec<u8>) -> Result<(), NarrowFailing>
     requires { length out.old.items ≤ LONGEST_DATA }
+    ensures each { AreOctets octets.now }
     ensures ok { OnOk result (Grows out.old.items (string octets.now) out.new.items) }
     ensures fault { IfErr result (IfFault (IsOver out.old.items (string octets.now))) }
     ensures err { OnErr result (out.new.items ≡ out.old.items) }
 {
+    are_octets(octets);
     if octets.len() > LONGEST_STRING {
         return Err(NarrowFailing::of(Cause::StringTooLong));
     }

@@ -30,30 +30,8 @@ impl fmt::Display for Kind {
     ghost output = { λ kind. Some (kind_text 1 kind) };
 
     fn fmt<W: fmt::Write>(&self, f: &mut fmt::Formatter<W>) -> fmt::Result {
-        let word = KindWord {
-            kind: *self,
-            class: Class::internet(),
-        };
-        word.fmt(f)
-    }
-}
-
-/// The word of a type as it is printed in a class.
-#[derive(Clone, Copy)]
-struct KindWord {
-    kind: Kind,
-    class: Class,
-}
-
-impl fmt::Display for KindWord {
-    ghost use Rattle.std.specs.Prelude.{Some};
-    ghost use Rattle.zone_rdata.specs.Words.{kind_text};
-
-    ghost output = { λ word. Some (kind_text word.class word.kind) };
-
-    fn fmt<W: fmt::Write>(&self, f: &mut fmt::Formatter<W>) -> fmt::Result {
         let mut sink = FormatterSink::new(f);
-        self.kind.push_word(self.class, &mut sink)?;
+        self.push_word(Class::internet(), &mut sink)?;
         sink.finish()
     }
 }
@@ -95,11 +73,11 @@ impl<'a> fmt::Display for RrRef<'a> {
 
     fn fmt<W: fmt::Write>(&self, f: &mut fmt::Formatter<W>) -> fmt::Result {
         let (owner, ttl, class, data) = (&self.owner, self.ttl, self.class, &self.rdata);
-        let kind = KindWord {
-            kind: self.kind,
-            class,
-        };
-        write!(f, "{owner} {ttl} {class} {kind} {data}")
+        write!(f, "{owner} {ttl} {class} ")?;
+        let mut sink = FormatterSink::new(f);
+        self.kind.push_word(class, &mut sink)?;
+        sink.finish()?;
+        write!(f, " {data}")
     }
 }
 

@@ -15,15 +15,15 @@ mod number;
 mod prefix;
 mod string;
 mod strings;
-mod time;
 
 use crate::cause::Cause;
 use crate::fault::Fault;
 use crate::item::Item;
 use crate::narrow_failing::NarrowFailing;
-use crate::number::push_decimal;
+use crate::number::{decimal_of, push_decimal};
 use crate::part::Part;
 use crate::string::{push_string, push_string_text};
+use crate::time::seconds_of;
 use address::{push_address, push_address_text};
 use byteorder::{BigEndian, ByteOrder};
 use name::{push_sent_name, split_name};
@@ -31,7 +31,6 @@ use number::{push_u16, push_u32};
 use prefix::push_prefix;
 use string::{push_sent_string, split_string};
 use strings::{push_sent_strings, push_strings, push_strings_text};
-use time::push_time;
 use zone_name::{Name, Sink};
 
 /// A field of record data (RFC 1035 3.3).
@@ -56,6 +55,7 @@ pub enum Field {
 impl Field {
     /// Appends the octets of the value that the field's items spell, and gives how many items these
     /// are.
+    #[tactic(auto, using(crate::proofs::Items::Values::no_serial))]
     pub(crate) fn push_items(
         self,
         items: &[Item],
@@ -79,8 +79,8 @@ impl Field {
             (Field::Name, Some(Item::Bare(text))) => {
                 Name::push_spelled(text, Some(origin), octets)??;
             }
-            (Field::Serial, Some(Item::Bare(text))) => push_u32(text, octets)?,
-            (Field::Time, Some(Item::Bare(text))) => push_time(text, octets)?,
+            (Field::Serial, Some(Item::Bare(text))) => push_u32(decimal_of(text), octets)?,
+            (Field::Time, Some(Item::Bare(text))) => push_u32(seconds_of(text), octets)?,
             (Field::U16, Some(Item::Bare(text))) => push_u16(text, octets)?,
             (Field::Octets(count), Some(Item::Bare(text))) => push_address(count, text, octets)?,
         }

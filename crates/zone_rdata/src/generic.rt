@@ -1,11 +1,9 @@
-ghost use Rattle.std.specs.Prelude.{◌≡◌, ◌≢◌, ◌≤◌, length, map, IfOk, IfErr, OnOk, Ok, Err};
+ghost use Rattle.std.specs.Prelude.{◌≡◌, ◌≢◌, ◌≤◌, length, map, IfErr, OnOk, Ok};
 ghost use Rattle.hex.specs.Hex.{decode_of};
 ghost use Rattle.zone_name.specs.Common.{Octets};
-ghost use Rattle.zone_rdata.specs.Cause.{fault_for};
 ghost use Rattle.zone_rdata.specs.Fault.{IfFault, NoValue};
-ghost use Rattle.zone_rdata.specs.Generic.{GenericFault, JoinTo, StatesGeneric, StatesLength};
+ghost use Rattle.zone_rdata.specs.Generic.{GenericFault, JoinTo, StatesGeneric};
 ghost use Rattle.zone_rdata.specs.Appended.{Appends};
-ghost use Rattle.zone_rdata.specs.Machine.GenericLength.{LengthFault};
 ghost use Rattle.zone_rdata.specs.Item.{IsGeneric, raw};
 
 use crate::cause::Cause;
@@ -30,29 +28,16 @@ pub(crate) fn read_generic(items: &[Item], octets: &mut Vec<u8>) -> Result<(), N
     ensures found { OnOk result (StatesGeneric (map raw items.now) octets.new.items) }
     ensures fault { IfErr result (IfFault (GenericFault (map raw items.now))) }
 {
-    match items {
-        [_, first, digits @ ..] => {
-            let len = length_of(*first)?;
-            join_digits(digits, len, octets)
-        }
-        _ => Err(NarrowFailing::of(Cause::BadGeneric)),
-    }
-}
-
-/// The number of octets that an item states.
-#[tactic(auto, using(crate::specs::Machine::GenericLength::no_number))]
-fn length_of(item: Item) -> Result<usize, Cause>
-    ensures found { IfOk result (λ n. StatesLength (raw item.entry) n) }
-    ensures short { IfOk result (λ n. n ≤ LONGEST_DATA) }
-    ensures fault { IfErr result (λ cause. LengthFault (raw item.entry) (fault_for cause)) }
-{
-    let Item::Bare(text) = item else {
-        return Err(Cause::BadGeneric);
+    let [_, first, digits @ ..] = items else {
+        return Err(NarrowFailing::of(Cause::BadGeneric));
     };
-    match decimal_of(text) {
-        None => Err(Cause::BadGeneric),
-        Some(number) if number > LONGEST_DATA as u64 => Err(Cause::RdataTooLong),
-        Some(number) => Ok(number as usize),
+    let Item::Bare(length) = *first else {
+        return Err(NarrowFailing::of(Cause::BadGeneric));
+    };
+    match decimal_of(length) {
+        None => Err(NarrowFailing::of(Cause::BadGeneric)),
+        Some(len) if len > LONGEST_DATA as u64 => Err(NarrowFailing::of(Cause::RdataTooLong)),
+        Some(len) => join_digits(digits, len as usize, octets),
     }
 }
 

@@ -1,5 +1,5 @@
 ghost use Rattle.std.specs.Prelude.{◌≡◌, option_map, slice_get};
-ghost use Rattle.zone_rdata.specs.Builder.{ends_with_strings, part_at};
+ghost use Rattle.zone_rdata.specs.Builder.{part_at};
 ghost use Rattle.zone_rdata.specs.Layout.{layout, fields_of};
 ghost use Rattle.zone_rdata.specs.Words.{IsClass, IsKind};
 
@@ -40,25 +40,14 @@ impl Layout {
         self.fields.get(i).copied()
     }
 
-    /// Whether the last field is strings.
-    #[tactic(auto, using(crate::proofs::Octets::Building::ends_at))]
-    fn ends_with_strings(self) -> bool
-        ensures { result ≡ ends_with_strings (fields_of self) }
-    {
-        match self.fields.last() {
-            Some(field) => matches!(field, Field::Strings),
-            None => false,
-        }
-    }
-
     /// The field of the part at an index, from 0. `None`: no part stands there.
+    #[tactic(auto, using(crate::proofs::Octets::Building::ends_at))]
     pub(crate) fn part_at(self, place: usize) -> Option<Field>
         ensures { result ≡ part_at (fields_of self) place }
     {
-        match self.fields.get(place) {
-            Some(field) => Some(*field),
-            None if self.ends_with_strings() => Some(Field::Strings),
-            None => None,
+        match self.fields.last()? {
+            Field::Strings => self.field(place).or(Some(Field::Strings)),
+            _ => self.field(place),
         }
     }
 }

@@ -8,7 +8,7 @@ use crate::class::Class;
 use crate::fault::Place;
 use crate::kind::Kind;
 use crate::layout::layout_of;
-use crate::printing::push_data;
+use crate::printing::{push_fields, push_generic};
 use std::marker::Model;
 use zone_name::{NameRef, Sink};
 
@@ -83,7 +83,10 @@ impl<'a> RdataRef<'a> {
         ensures ok { OnOk result (S.takes out.old (data_text self.now) out.new) }
         ensures err { OnErr result (TakesSome S.takes out.old out.new) }
     {
-        push_data(layout_of(self.class, self.kind), self.octets, out)
+        match layout_of(self.class, self.kind) {
+            Some(layout) => push_fields(layout, self.octets, out),
+            None => push_generic(self.octets, out),
+        }
     }
 }
 

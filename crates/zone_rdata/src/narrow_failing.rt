@@ -34,19 +34,6 @@ impl NarrowFailing {
     {
         NarrowFailing { cause: Some(cause) }
     }
-
-    /// The failing itself.
-    // Not inlined: only what is refused needs the room.
-    #[cold]
-    #[inline(never)]
-    fn widened(self) -> Failing
-        ensures { result ≡ self }
-    {
-        match self.cause {
-            Some(cause) => Failing::Fault(cause.widened()),
-            None => Failing::Memory,
-        }
-    }
 }
 
 impl From<Cause> for NarrowFailing {
@@ -78,8 +65,14 @@ impl From<AllocError> for NarrowFailing {
 impl From<NarrowFailing> for Failing {
     ghost from_gives = { λ narrow e. e ≡ narrow };
 
+    // Not inlined: only what is refused needs the room.
+    #[cold]
+    #[inline(never)]
     fn from(narrow: NarrowFailing) -> Failing {
-        narrow.widened()
+        match narrow.cause {
+            Some(cause) => Failing::Fault(cause.widened()),
+            None => Failing::Memory,
+        }
     }
 }
 
@@ -92,7 +85,7 @@ impl fmt::Display for NarrowFailing {
 
     fn fmt<W: fmt::Write>(&self, f: &mut fmt::Formatter<W>) -> fmt::Result {
         let copy = NarrowFailing { cause: self.cause };
-        copy.widened().fmt(f)
+        Failing::from(copy).fmt(f)
     }
 }
 

@@ -1,4 +1,4 @@
-ghost use Rattle.std.specs.Prelude.{[], ◌≤◌, length, OnOk, OnErr, option_map, MatchOption, IfSome, Some};
+ghost use Rattle.std.specs.Prelude.{[], ◌≤◌, length, OnOk, OnErr, Some};
 ghost use Rattle.std.specs.List.{AllByRecursion};
 ghost use Rattle.zone_name.specs.Sink.{TakesSome};
 ghost use Rattle.zone_rdata.specs.Layout.{AreLaidOut, IsSized, fields_of};
@@ -14,7 +14,11 @@ use zone_name::Sink;
 
 /// Appends the fields, parted by single spaces.
 #[tactic(auto, using(crate::proofs::Texts::FieldTexts::printed_last))]
-fn push_fields<S: Sink>(layout: Layout, octets: &[u8], out: &mut S) -> Result<(), S::Error>
+pub(crate) fn push_fields<S: Sink>(
+    layout: Layout,
+    octets: &[u8],
+    out: &mut S,
+) -> Result<(), S::Error>
     requires sized { AllByRecursion IsSized (fields_of layout) }
     requires laid { AreLaidOut (fields_of layout) octets.now }
     ensures ok { OnOk result
@@ -85,28 +89,10 @@ fn push_hex_of_few<S: Sink>(octets: &[u8], out: &mut S) -> Result<(), S::Error>
 }
 
 /// Appends octets in the generic form (RFC 3597 5).
-fn push_generic<S: Sink>(octets: &[u8], out: &mut S) -> Result<(), S::Error>
+pub(crate) fn push_generic<S: Sink>(octets: &[u8], out: &mut S) -> Result<(), S::Error>
     ensures ok { OnOk result (S.takes out.old (generic_text octets.now) out.new) }
     ensures err { OnErr result (TakesSome S.takes out.old out.new) }
 {
     push_generic_head(octets, out)?;
     push_hex(octets, out)
-}
-
-/// Appends the canonical text of data: its fields, or opaque octets in the generic form.
-pub(crate) fn push_data<S: Sink>(
-    layout: Option<Layout>,
-    octets: &[u8],
-    out: &mut S,
-) -> Result<(), S::Error>
-    requires sized { IfSome layout (λ l. AllByRecursion IsSized (fields_of l)) }
-    requires laid { MatchOption layout (Unit {0}) (λ l. AreLaidOut (fields_of l) octets.now) }
-    ensures ok { OnOk result
-        (S.takes out.old (laid_out_text (option_map fields_of layout) octets.now) out.new) }
-    ensures err { OnErr result (TakesSome S.takes out.old out.new) }
-{
-    match layout {
-        Some(layout) => push_fields(layout, octets, out),
-        None => push_generic(octets, out),
-    }
 }

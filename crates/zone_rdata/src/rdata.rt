@@ -22,7 +22,6 @@ use crate::layout::{Layout, layout_of};
 use crate::lent::RdataRef;
 use crate::limits::LONGEST_DATA;
 use crate::narrow_failing::NarrowFailing;
-use crate::printing::push_data;
 use crate::reading::{is_generic, read_words};
 use crate::uncompressed::canonical_of;
 use std::alloc::{AllocError, Global};
@@ -53,27 +52,6 @@ impl Model for Rdata {
         IsRdata (record { class = d.class; kind = d.kind; octets = d.octets.items }) };
 }
 
-/// Reads the canonical octets that items in the generic form state for a layout. They come in the
-/// place of those of before.
-fn read_in_form(
-    layout: Option<Layout>,
-    items: &[Item],
-    octets: &mut Vec<u8>,
-) -> Result<(), NarrowFailing>
-    requires marked { IsGeneric (map raw items.now) }
-    requires last { IfSome layout (λ l. StringsLast (fields_of l)) }
-    ensures found { OnOk result
-        (StatesInForm (option_map fields_of layout) (map raw items.now) octets.new.items) }
-    ensures fault { IfErr result (IfFault
-        (IsGenericDataFault (option_map fields_of layout) (map raw items.now))) }
-{
-    read_generic(items, octets)?;
-    if let Some(layout) = layout {
-        *octets = canonical_of(*octets.allocator(), Some(layout), octets)?;
-    }
-    Ok(())
-}
-
 /// Reads the canonical octets that items state for a layout, in words or in the generic form. They
 /// come in the place of those of before.
 #[tactic(auto, using(crate::proofs::Items::Forms::octets_read))]
@@ -89,13 +67,17 @@ fn read_octets(
     ensures fault { IfErr result (IfFault
         (IsFaultFor origin.now (option_map fields_of layout) (map raw items.now))) }
 {
-    if is_generic(items) {
-        return read_in_form(layout, items, octets);
+    if !is_generic(items) {
+        return match layout {
+            Some(layout) => read_words(layout, items, origin, octets),
+            None => Err(NarrowFailing::of(Cause::BadGeneric)),
+        };
     }
-    match layout {
-        Some(layout) => read_words(layout, items, origin, octets),
-        None => Err(NarrowFailing::of(Cause::BadGeneric)),
+    read_generic(items, octets)?;
+    if let Some(layout) = layout {
+        *octets = canonical_of(*octets.allocator(), Some(layout), octets)?;
     }
+    Ok(())
 }
 
 impl Rdata {
@@ -302,12 +284,11 @@ impl Rdata {
     /// # Errors
     ///
     /// `out` refuses octets. A prefix of the text may have been appended.
-    #[tactic(auto, using(crate::proofs::Texts::TextItems::printed_data))]
     pub fn print<S: Sink>(&self, out: &mut S) -> Result<(), S::Error>
         ensures ok { OnOk result (S.takes out.old (data_text self.now) out.new) }
         ensures err { OnErr result (TakesSome S.takes out.old out.new) }
     {
-        push_data(layout_of(self.class, self.kind), &self.octets, out)
+        self.lend().print(out)
     }
 }
 

@@ -17,10 +17,7 @@ use zone_name::Name;
 pub fn is_generic(items: &[Item]) -> bool
     ensures { IsTrue result ↔ IsGeneric (map raw items.now) }
 {
-    match items.first() {
-        Some(Item::Bare(text)) => matches!(text, [b'\\', b'#']),
-        _ => false,
-    }
+    matches!(items.first(), Some(Item::Bare([b'\\', b'#'])))
 }
 
 /// Reads the octets of the values that the items spell, field by field. They come in the place of

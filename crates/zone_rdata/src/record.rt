@@ -1,6 +1,6 @@
 ghost use Rattle.std.specs.Prelude.{◌≡◌, ◌<◌, ◌≤◌, ◌↔◌, IfOk, IfErr, IsOk, IsTrue, OnOk, Err};
 ghost use Rattle.zone_rdata.specs.Lent.{placed_of, record_of};
-ghost use Rattle.zone_rdata.specs.Record.{Record, IsRecord, data_of, record_with};
+ghost use Rattle.zone_rdata.specs.Record.{IsRecord, data_of, record_with};
 
 use crate::class::Class;
 use crate::fault::{Fault, Place};
@@ -24,25 +24,13 @@ pub struct Rr {
 }
 
 impl Model for Rr {
-    ghost use Rattle.zone_rdata.specs.Record.{Record, IsRecord};
+    ghost use Rattle.zone_rdata.specs.Record.{Record, IsRecord, record_with};
 
     ghost Value = { Record };
 
-    ghost view = { λ r. record {
-      owner = r.owner;
-      class = r.rdata.class;
-      kind = r.rdata.kind;
-      ttl = r.ttl;
-      octets = r.rdata.octets;
-    } };
+    ghost view = { λ r. record_with r.owner r.ttl r.rdata };
 
-    ghost invariant = { λ r. IsRecord (record {
-      owner = r.owner;
-      class = r.rdata.class;
-      kind = r.rdata.kind;
-      ttl = r.ttl;
-      octets = r.rdata.octets;
-    }) };
+    ghost invariant = { λ r. IsRecord (record_with r.owner r.ttl r.rdata) };
 }
 
 /// A record and where it was stated.

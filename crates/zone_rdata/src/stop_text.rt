@@ -72,7 +72,14 @@ fn push_refusal<S: Sink>(fault: &Fault, place: Place, out: &mut S) -> Result<(),
     ensures short { OnOk result (length (refusal_line fault.now place) ≤ LONGEST) }
 {
     push_fault(fault, out)?;
-    push_place(place, out)?;
+    match place {
+        Place::Line(number) => push_number(b" at line ", number, out)?,
+        Place::Message(number, offset) => {
+            push_number(b" at message ", number, out)?;
+            push_number(b" offset ", offset as u64, out)?;
+        }
+        Place::Whole => out.push(b" in the input")?,
+    }
     out.push(b": ")?;
     out.push(fault.text().as_bytes())
 }
@@ -95,21 +102,6 @@ fn push_fault<S: Sink>(fault: &Fault, out: &mut S) -> Result<(), S::Error>
             owner.push_text(out)
         }
         _ => Ok(()),
-    }
-}
-
-/// The place in words.
-fn push_place<S: Sink>(place: Place, out: &mut S) -> Result<(), S::Error>
-    ensures text { OnOk result (S.takes out.old (place_words place) out.new) }
-    ensures short { OnOk result (length (place_words place) ≤ 128) }
-{
-    match place {
-        Place::Line(number) => push_number(b" at line ", number, out),
-        Place::Message(number, offset) => {
-            push_number(b" at message ", number, out)?;
-            push_number(b" offset ", offset as u64, out)
-        }
-        Place::Whole => out.push(b" in the input"),
     }
 }
 

@@ -1,7 +1,6 @@
-ghost use Rattle.std.specs.Prelude.{◌≡◌, ◌++◌, ◌≤◌, [], length, IfOk, IfErr, OnOk, OnErr, Err};
+ghost use Rattle.std.specs.Prelude.{◌≡◌, ◌++◌, ◌≤◌, [], length, OnOk, OnErr, Err};
 ghost use Rattle.zone_name.specs.Name.{with_length};
 ghost use Rattle.zone_name.specs.Sink.{TakesSome};
-ghost use Rattle.zone_rdata.specs.Cause.{fault_for};
 ghost use Rattle.zone_rdata.specs.Item.{raw};
 ghost use Rattle.zone_rdata.specs.Strings.{SpellsString, StringFault, inside_text, item_text, string_text, unit_text};
 ghost use Rattle.zone_rdata.specs.Appended.{Appends};
@@ -45,6 +44,7 @@ pub fn push_string(item: Item, out: &mut Vec<u8>) -> Result<(), NarrowFailing>
 /// As `push_string`, of an item that has an escape or is long.
 // Not inlined: few strings are so, and the room for one would be cleared for each.
 #[inline(never)]
+#[tactic(auto, using(crate::proofs::Strings::StringSteps::steps_read))]
 fn push_unescaped(item: Item, out: &mut Vec<u8>) -> Result<(), NarrowFailing>
     ensures found { OnOk result
         (Appends (SpellsString (raw item.entry)) with_length out.old.items out.new.items) }
@@ -52,7 +52,22 @@ fn push_unescaped(item: Item, out: &mut Vec<u8>) -> Result<(), NarrowFailing>
         → StringFault (raw item.entry) fault }
     ensures err { OnErr result (out.new.items ≡ out.old.items) }
 {
-    let octets = string_of(item)?;
+    let mut octets: ArrayVec<u8, LONGEST_STRING> = ArrayVec::new();
+    let mut rest = text_of(item);
+    loop {
+        match next_unit(rest) {
+            NextUnit::End => break,
+            NextUnit::Octet(octet, after) => {
+                if octets.is_full() {
+                    return Err(NarrowFailing::of(Cause::StringTooLong));
+                }
+                octets.push(octet);
+                rest = after;
+            }
+            NextUnit::BadEscape => return Err(NarrowFailing::of(Cause::BadEscape)),
+        }
+    }
+    are_octets(octets.as_slice());
     push_with_length(octets.as_slice(), out)?;
     Ok(())
 }
@@ -78,32 +93,6 @@ fn text_of(item: Item<'_>) -> &[u8]
 {
     match item {
         Item::Bare(text) | Item::Quoted(text) => text,
-    }
-}
-
-/// The octets of the string that the item spells (RFC 1035 3.3, 5.1).
-#[tactic(auto, using(crate::proofs::Strings::StringSteps::steps_read))]
-fn string_of(item: Item<'_>) -> Result<ArrayVec<u8, LONGEST_STRING>, Cause>
-    ensures found { IfOk result (λ octets. SpellsString (raw item.entry) octets.items) }
-    ensures fault { IfErr result (λ cause. StringFault (raw item.entry) (fault_for cause)) }
-{
-    let mut octets: ArrayVec<u8, LONGEST_STRING> = ArrayVec::new();
-    let mut rest = text_of(item);
-    loop {
-        match next_unit(rest) {
-            NextUnit::End => {
-                are_octets(octets.as_slice());
-                return Ok(octets);
-            }
-            NextUnit::Octet(octet, after) => {
-                if octets.is_full() {
-                    return Err(Cause::StringTooLong);
-                }
-                octets.push(octet);
-                rest = after;
-            }
-            NextUnit::BadEscape => return Err(Cause::BadEscape),
-        }
     }
 }
 

@@ -1,5 +1,5 @@
-ghost use Rattle.std.specs.Prelude.{◌≡◌, ◌++◌, ◌-◌, ◌≤◌, ◌<◌, ◌∷◌, [], ℕ, true, IfSome, IfNone};
-ghost use Rattle.zone_name.specs.Common.{NothingIs, Octets};
+ghost use Rattle.std.specs.Prelude.{◌≡◌, ◌-◌, ◌≤◌, ◌<◌, true, IfSome, IfNone};
+ghost use Rattle.zone_name.specs.Common.{NothingIs};
 ghost use Rattle.zone_name.specs.Spelling.{is_digit};
 ghost use Rattle.zone_rdata.specs.Number.{IsCapped, IsDecimal, IsTime, unit_seconds};
 
@@ -17,62 +17,6 @@ fn seconds_of_unit(octet: u8) -> Option<u64>
         b'm' | b'M' => Some(60),
         b's' | b'S' => Some(1),
         _ => None,
-    }
-}
-
-/// What was read of a time: the groups so far, and the digits after the last of them.
-#[derive(Clone, Copy, Debug)]
-pub(crate) struct Progress {
-    total: u64,
-    grouped: bool,
-    number: u64,
-    open: bool,
-}
-
-impl Progress {
-    ghost use Rattle.zone_rdata.specs.Machine.TimeProgress.{ReadsTime};
-
-    /// What is read with one more octet. `None`: no time begins with these octets.
-    #[tactic(auto, using(crate::proofs::Numbers::TimeLaws::more_groups))]
-    fn with(self, octet: u8) -> Option<Progress>
-        requires { (self.total ≤ CAP) × (self.number ≤ CAP) }
-        ensures found { IfSome result (λ next. (text : Octets)
-            → ReadsTime text self → ReadsTime (text ++ octet ∷ []) next) }
-        ensures none { IfNone result ((text rest : Octets) (n : ℕ)
-            → ReadsTime text self → IsTime (text ++ octet ∷ rest) n → ⊥) }
-    {
-        if octet.is_ascii_digit() {
-            return Some(Progress {
-                total: self.total,
-                grouped: self.grouped,
-                number: CAP.min(self.number * 10 + u64::from(octet - b'0')),
-                open: true,
-            });
-        }
-        match seconds_of_unit(octet) {
-            Some(unit) if self.open => Some(Progress {
-                total: CAP.min(self.total + self.number * unit),
-                grouped: true,
-                number: 0,
-                open: false,
-            }),
-            _ => None,
-        }
-    }
-
-    /// The time that was read if no octet follows. `None`: it is none.
-    #[tactic(auto, using(crate::proofs::Numbers::TimeLaws::ends_grouped))]
-    fn seconds(self) -> Option<u64>
-        ensures found { IfSome result (λ n.
-            (text : Octets) → ReadsTime text self → IsCapped (IsTime text) n) }
-        ensures none { IfNone result ((text : Octets) (n : ℕ)
-            → ReadsTime text self → IsTime text n → ⊥) }
-    {
-        match (self.grouped, self.open) {
-            (true, false) => Some(self.total),
-            (false, true) => Some(self.number),
-            _ => None,
-        }
     }
 }
 
@@ -130,14 +74,20 @@ fn seconds_of_any(text: &[u8]) -> Option<u64>
     if let Some(seconds) = decimal_of(text) {
         return Some(seconds);
     }
-    let mut so_far = Progress {
-        total: 0,
-        grouped: false,
-        number: 0,
-        open: false,
-    };
+    let mut total = 0;
+    // What the digits after the last unit stand for.
+    let mut number = None;
     for octet in text {
-        so_far = so_far.with(*octet)?;
+        if octet.is_ascii_digit() {
+            let front: u64 = number.unwrap_or(0);
+            number = Some(CAP.min(front * 10 + u64::from(*octet - b'0')));
+        } else {
+            total = CAP.min(total + number? * seconds_of_unit(*octet)?);
+            number = None;
+        }
     }
-    so_far.seconds()
+    if text.is_empty() || number.is_some() {
+        return None;
+    }
+    Some(total)
 }

@@ -15,27 +15,19 @@ use zone_name::Sink;
 /// The bits of an octet in which a letter's two cases are the same.
 const CASELESS: u8 = 0xdf;
 
-/// Whether two words may be equal but for the case of their letters, by their lengths and first
-/// octets. Most words of a table are told so from another one.
-#[inline(always)]
-fn may_be_word(word: &[u8], wanted: &[u8]) -> bool
-    ensures { folded_label word.now ≡ folded_label wanted.now → IsTrue result }
-{
-    if word.len() != wanted.len() {
-        return false;
-    }
-    match (word.split_first(), wanted.split_first()) {
-        (Some((first, _)), Some((other, _))) => *first & CASELESS == *other & CASELESS,
-        _ => true,
-    }
-}
-
 /// Whether two words are equal but for the case of their letters (RFC 4343 3).
 #[tactic(auto, using(crate::proofs::Words::AnyCase::same_word))]
 pub fn is_word(word: &[u8], wanted: &[u8]) -> bool
     ensures { IsTrue result ↔ (folded_label word.now ≡ folded_label wanted.now) }
 {
-    may_be_word(word, wanted) && word.eq_ignore_ascii_case(wanted)
+    // Most words of a table are told from another one by their lengths and first octets.
+    if word.len() != wanted.len() {
+        return false;
+    }
+    match (word.split_first(), wanted.split_first()) {
+        (Some((first, _)), Some((other, _))) if *first & CASELESS != *other & CASELESS => false,
+        _ => word.eq_ignore_ascii_case(wanted),
+    }
 }
 
 /// The decimal number right after the name in any letter case, at most `CAP`. `None`: it is no such

@@ -1,8 +1,8 @@
 -- One or more character-strings, up to the end of the data.
-use Rattle.zone_rdata.proofs.Common.{[], List, ap, append_assoc, arith, drop, inl, inr, length, length-append, map, refl, subst, sym, take, ℕ, ◌++◌, ◌<◌, ◌∙◌, ◌∷◌, ◌≡◌, ◌≤◌, ◌⊎◌, AllByRecursion, flat_map, cases_lt, append-nil, drop_all, length-map, take_all, Labels, with_length, AllByRecursion-append, Fault, strings, string_item, AreStrings, FirstStringFault, SpellEachString, SpellsStrings, StringsFault, strings_of, IsGeneric, RawItem, AppendsPrefix, AppendsValue, BeginsWithNone, AreWithLengths, IsString, Decided, each_or_not, rules, common_steps, BadRdata, Strings, after}
-use Rattle.zone_rdata.proofs.Fields.FieldLaws.{AreLow, AreLowItems, FieldChoice, FrontChoice, appends_plain, found_front, front_of, low_drop}
-use Rattle.zone_rdata.proofs.Fields.OneString.{low_string}
-use Rattle.zone_rdata.proofs.Octets.Sent.{frame_at, frame_same, frames_push}
+use Rattle.zone_rdata.proofs.Common.{[], List, ap, append_assoc, arith, drop, inl, inr, length, length-append, map, refl, sym, take, ℕ, ◌++◌, ◌<◌, ◌∙◌, ◌∷◌, ◌≡◌, ◌⊎◌, AllByRecursion, flat_map, cases_lt, append-nil, drop_all, length-map, take_all, Labels, with_length, AllByRecursion-append, Fault, strings, string_item, AreStrings, FirstStringFault, SpellEachString, SpellsStrings, StringsFault, strings_of, IsGeneric, RawItem, AppendsPrefix, AppendsValue, BeginsWithNone, AreWithLengths, IsString, Decided, each_or_not, rules, common_steps, BadRdata, Strings, after}
+use Rattle.zone_rdata.proofs.Common.{BeginsWithValue, FieldValue, OneString, field_octets, flat_map-append, string}
+use Rattle.zone_rdata.proofs.Fields.FieldLaws.{AreLow, AreLowItems, FieldChoice, FrontChoice, appends_plain, found_front, front_of}
+use Rattle.zone_rdata.proofs.Octets.Sent.{frame_same, frames_push}
 use Rattle.zone_rdata.proofs.Octets.StringFields.{strings_back}
 use Rattle.zone_rdata.proofs.Strings.StringLaws.{fault-once, printed_spells, printed_stands, string-never_both, string-once}
 use Rattle.zone_rdata.proofs.Strings.Units.{string_or_fault}
@@ -30,22 +30,12 @@ pub record Framed (octets rest : List ℕ) : Type 0 where
   pub parts : octets ≡ flat_map with_length many ++ rest
   pub low : AreLow rest
 
-pub framed_more : (octets rest : List ℕ) (c count : ℕ) (following after : List ℕ) → Framed octets rest → rest ≡ c ∷ following → count ≡ c → count ≤ length following → after ≡ drop count following → Framed octets after
-framed_more octets rest c count following after so_far e same fits is =
-    let here = e ∙ ap (λ n. n ∷ following) (sym same) in
-    let low = subst AreLow here so_far.low in
-    let text = take count following in
-    record { many = so_far.many ++ text ∷ []; each = AllByRecursion-append IsString so_far.many (text ∷ []) so_far.each (low_string count following low fits, tt); parts = so_far.parts ∙ ap (λ t. flat_map with_length so_far.many ++ t) (here ∙ frame_at count following fits ∙ ap (λ t. with_length text ++ t) (sym is)) ∙ frames_push so_far.many text after; low = subst AreLow (sym is) (low_drop count following low.1) }
-
 pub some_frames : (many : List (List ℕ)) → 0 < length (flat_map with_length many) → 0 < length many
 some_frames many h = grind (arith, common_steps)
 
 frames_some : (many : List (List ℕ)) → 0 < length many → 0 < length (flat_map with_length many)
 frames_some [] h = absurd (omega arith)
 frames_some (x ∷ many) h = omega arith
-
-pub framed_empty : (octets : List ℕ) → length octets ≡ 0 → AreWithLengths octets → ⊥
-framed_empty octets none framed = grind (arith, frames_some)
 
 strings_first : (many whole : List (List ℕ)) (rest : List ℕ) → flat_map with_length many ++ rest ≡ flat_map with_length whole → (more : List (List ℕ)) × (rest ≡ flat_map with_length more)
 strings_first [] whole rest e = (whole, e)
@@ -70,6 +60,61 @@ framed_or_not octets =
 pub front : (octets : List ℕ) → AreWithLengths octets ⊎ (AreWithLengths octets → ⊥) → FrontChoice Strings octets
 front octets (inl framed) = found_front Strings octets (drop (length octets) octets) (take (length octets) octets) (appends_strings octets (drop (length octets) octets) [] (take (length octets) octets) framed (front_of (length octets) octets (omega arith)))
 front octets (inr none) = inr (none_strings octets none)
+
+-- ---- strings that are pushed one by one
+
+string_pushed : (octets rest old new : List ℕ) (v : FieldValue) → BeginsWithValue OneString octets v rest → new ≡ old ++ field_octets v → (text : List ℕ) × IsString text × (octets ≡ with_length text ++ rest) × (new ≡ old ++ with_length text)
+string_pushed octets rest old new (string text) b e = (text, b.held, b.parts ∙ ap (λ f. f ++ rest) b.sent, e)
+string_pushed octets rest old new v b e = absurd (grind arith)
+
+-- the strings that were pushed so far
+pub record PushedStrings (octets rest old new : List ℕ) : Type 0 where
+  pub many : List (List ℕ)
+  pub each : AllByRecursion IsString many
+  pub some : 0 < length many
+  pub parts : octets ≡ flat_map with_length many ++ rest
+  pub written : new ≡ old ++ flat_map with_length many
+
+pub first_pushed : (octets rest old new : List ℕ) → AppendsValue OneString octets rest old new → PushedStrings octets rest old new
+first_pushed octets rest old new h =
+    let s = string_pushed octets rest old new h.value h.begins h.written in
+    record { many = s.0 ∷ []; each = (s.1, tt); some = omega arith; parts = grind (arith, s.2, append-nil); written = grind (arith, s.3, append-nil) }
+
+pub more_pushed : (octets rest after old new newer : List ℕ) → PushedStrings octets rest old new → AppendsValue OneString rest after new newer → PushedStrings octets after old newer
+more_pushed octets rest after old new newer so_far h =
+    let s = string_pushed rest after new newer h.value h.begins h.written in
+    record { many = so_far.many ++ s.0 ∷ []; each = AllByRecursion-append IsString so_far.many (s.0 ∷ []) so_far.each (s.1, tt); some = omega (arith, length-append so_far.many (s.0 ∷ [])); parts = so_far.parts ∙ ap (λ t. flat_map with_length so_far.many ++ t) s.2 ∙ frames_push so_far.many s.0 after; written = grind (arith, so_far.written, s.3, append_assoc, append-nil, flat_map-append) }
+
+pub all_pushed : (octets rest old new : List ℕ) → length rest ≡ 0 → PushedStrings octets rest old new → AppendsValue Strings octets rest old new
+all_pushed octets [] old new none h = record {
+  value = strings h.many;
+  begins = record { held = record { some = h.some; each = h.each }; front = flat_map with_length h.many; sent = refl; parts = h.parts; last = λ e. refl };
+  written = h.written;
+}
+all_pushed octets (c ∷ rest) old new none h = absurd (omega (arith, none))
+
+strings_rest : (many whole : List (List ℕ)) (rest : List ℕ) → AllByRecursion IsString whole → flat_map with_length many ++ rest ≡ flat_map with_length whole → (more : List (List ℕ)) × AllByRecursion IsString more × (rest ≡ flat_map with_length more)
+strings_rest [] whole rest each e = (whole, each, e)
+strings_rest (x ∷ many) [] rest each e = absurd (omega (arith, ap length e))
+strings_rest (x ∷ many) (y ∷ whole) rest each e = strings_rest many whole rest each.1 (grind (arith, append_assoc, frame_same x y))
+
+-- octets that begin with no string are not strings
+begun : (rest : List ℕ) (more : List (List ℕ)) → 0 < length rest → AllByRecursion IsString more → rest ≡ flat_map with_length more → BeginsWithNone OneString rest → ⊥
+begun rest [] some each e none = omega (arith, some, ap length e)
+begun rest (x ∷ more) some each e none = none (string x) (flat_map with_length more) (record { held = each.0; front = with_length x; sent = refl; parts = e; last = λ h. absurd cc })
+
+pub none_first : (octets : List ℕ) → BeginsWithNone OneString octets → BeginsWithNone Strings octets
+none_first octets none v rest b =
+    let framed : AreWithLengths octets = search rules in
+    begun octets framed.0 (omega (arith, frames_some framed.0 framed.1.some, ap length framed.2)) framed.1.each framed.2 none
+
+pub none_next : (octets rest old new : List ℕ) → 0 < length rest → PushedStrings octets rest old new → BeginsWithNone OneString rest → BeginsWithNone Strings octets
+none_next octets rest old new some so_far none v after b =
+    let framed : AreWithLengths octets = search rules in
+    let more = strings_rest so_far.many framed.0 rest framed.1.each (sym so_far.parts ∙ framed.2) in
+    begun rest more.0 some more.1 more.2 none
+
+pub ruleset pushed_strings = (first_pushed, more_pushed, all_pushed, none_first, none_next)
 
 -- ---- the items that spell strings
 pub each_held : (items : List RawItem) (many : List (List ℕ)) → SpellEachString items many → AllByRecursion IsString many × (length many ≡ length items)

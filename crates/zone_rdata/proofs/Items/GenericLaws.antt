@@ -52,7 +52,7 @@ form_digits items digits item n fault e states short bad =
 pub form_parts : (items : List Item) (d : Item) → 2 ≤ length items → IsGeneric (map raw items) → map raw items ≡ generic_mark ∷ raw (get_or items 1 d) ∷ map raw (drop 2 items)
 form_parts items d two marked = grind arith
 
-pub ruleset generic_read = (err_from_is_err_and, form_faults, form_missing, form_parts, length-map)
+pub ruleset generic_read = (no_number, beyond, form_faults, form_missing, form_parts, length-map)
 
 -- ---- its laws
 

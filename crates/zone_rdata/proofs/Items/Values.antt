@@ -1,5 +1,12 @@
 -- What items spell is appended, field after field.
 use Rattle.zone_rdata.proofs.Common.{[], List, Option, Some, ap, append_assoc, arith, drop, get_or, inr, length, map, min, subst, sym, ℕ, ◌++◌, ◌+◌, ◌<◌, ◌∙◌, ◌∷◌, ◌≡◌, ◌≤◌, flat_map, slice_get, IfNone, IfSome, append-nil, drop_all, Labels, with_length, Fault, Field, Item, FieldValue, SpellsField, field_octets, items_after, own_items, strings, FirstStringFault, SpellEachString, SpellsStrings, StringsFault, RawItem, raw, Appends, AppendsFirst, SpellsString, StringFault, from_place, ◌-◌, take, Bor, Bool, IsTrue, ◌↔◌, length-drop, take_all, drop-drop, FirstFieldFault, IsWordsFault, unspelt, too_long, IsFieldFault, octets_of, IsGeneric, AreSpelt, SpellEach, common_steps, bytes_eq, BadRdata, RdataTooLong, Bare, rules, if_fault_passed}
+use Rattle.zone_rdata.proofs.Common.{BadNumber, IsDecimal, IsTime, NoValue}
+use Rattle.zone_rdata.proofs.Numbers.TimeLaws.{one_time}
+use Rattle.zone_rdata.specs.Fields.Number.{IsNumber, SpellsNumber}
+use Rattle.zone_rdata.specs.Fields.Time.{SpellsTime}
+use Rattle.zone_rdata.specs.Item.{bare}
+use Rattle.zone_rdata.specs.Number.{IsCapped}
+use Rattle.std.specs.Int.{w32, to_be_bytes}
 use Rattle.zone_rdata.specs.declared.field.Field.TheVariants as fields
 
 -- ---- the items of the field at their front
@@ -51,6 +58,28 @@ no_number Is bound most cap number once fits room found none over n h = grind ar
 -- the number that was read, where it is no greater
 pub that_number : (Is : ℕ → Type 0) (n most cap : ℕ) (number : Option ℕ) → most < cap → number ≡ Some n → n ≤ most → IfSome number (λ n. (m : ℕ) × (Is m × (n ≡ min cap m))) → Is n
 that_number Is n most cap number room e short found = grind arith
+
+-- a number of 32 bits is appended where one was read
+pub number_read : (Is : ℕ → Type 0) (number : Option ℕ) (old new : List ℕ) → Appends (λ n. (number ≡ Some n) × (n ≤ 4294967295)) (to_be_bytes w32) old new → IfSome number (λ n. (m : ℕ) × (Is m × (n ≡ min 4294967296 m))) → Appends (λ n. Is n × IsNumber w32 n) (to_be_bytes w32) old new
+number_read Is number old new h found = record {
+  value = h.value;
+  stated = (that_number Is h.value 4294967295 4294967296 number (omega arith) h.stated.0 h.stated.1 found, omega (arith, h.stated.1));
+  written = h.written;
+}
+
+-- and none where it has more
+no_read : (Is : ℕ → Type 0) (number : Option ℕ) (fault : Fault) → ((a b : ℕ) → Is a → Is b → a ≡ b) → (fault ≡ BadNumber) × IfSome number (λ n. 4294967295 < n) → IfSome number (λ n. (m : ℕ) × (Is m × (n ≡ min 4294967296 m))) → IfNone number ((m : ℕ) → Is m → ⊥) → NoValue BadNumber (λ n. Is n × IsNumber w32 n) fault
+no_read Is number fault once bad found none = (bad.0, no_number Is 4294967296 4294967295 4294967296 number once (omega arith) (omega arith) found none bad.1)
+
+pub no_serial : (text : List ℕ) (number : Option ℕ) (fault : Fault) → (fault ≡ BadNumber) × IfSome number (λ n. 4294967295 < n) → IfSome number (IsCapped (IsDecimal text)) → IfNone number ((m : ℕ) → IsDecimal text m → ⊥) → NoValue BadNumber (SpellsNumber w32 text) fault
+no_serial text number fault bad found none = no_read (IsDecimal text) number fault (λ a b x y. x.value ∙ sym y.value) bad found none
+
+pub no_seconds : (text : List ℕ) (number : Option ℕ) (fault : Fault) → (fault ≡ BadNumber) × IfSome number (λ n. 4294967295 < n) → IfSome number (IsCapped (IsTime text)) → IfNone number ((m : ℕ) → IsTime text m → ⊥) → NoValue BadNumber (SpellsTime text) fault
+no_seconds text number fault bad found none = no_read (IsTime text) number fault (one_time text) bad found none
+
+pub no_time : (origin : Labels) (field : Field) (first : Item) (items : List Item) (text : List ℕ) (fault : Fault) → field ≡ fields.Time → Some first ≡ slice_get items 0 → raw first ≡ bare text → NoValue BadNumber (SpellsTime text) fault → IsFieldFault origin field (own_items field (map raw items)) fault
+no_time origin field first [] text fault is which e own = absurd cc
+no_time origin field first (item ∷ items) text fault is which e own = grind arith
 
 pub ruleset strings_spelt = (spelt_all, spelt_more)
 

@@ -1,6 +1,8 @@
 -- Times: a text has one reading, octet by octet, and states one time or none.
-use Rattle.zone_rdata.proofs.Common.{[], ◌≡◌, ℕ, ◌+◌, ◌*◌, ◌<◌, ◌⊎◌, min, true, false, List, ◌∷◌, ◌++◌, length, Option, Some, refl, sym, ap, ◌∙◌, subst, arith, append_assoc, length-append, IsTrue, take, drop, get_or, inl, inr, AllByRecursion, flat_map, flat_map-append, sum_by, append-nil, take-append-drop, drop_more, nat_tests, is_digit, decimal_value, Group, IsTimeGroup, group_text, group_seconds, unit_seconds, IsTime, plain, grouped, common_steps, sum_by-append, ReadsTime, AllByRecursion-append, Choice, Decided, true_or_not}
-use Rattle.zone_rdata.specs.declared.time.Progress.{Progress}
+use Rattle.zone_rdata.proofs.Common.{[], ◌≡◌, ℕ, ◌+◌, ◌*◌, ◌<◌, ◌⊎◌, min, true, false, List, ◌∷◌, ◌++◌, length, Option, Some, refl, sym, ap, ◌∙◌, subst, arith, append_assoc, length-append, take, drop, get_or, inl, inr, AllByRecursion, flat_map, flat_map-append, sum_by, append-nil, take-append-drop, drop_more, nat_tests, is_digit, decimal_value, Group, IsTimeGroup, group_text, group_seconds, unit_seconds, IsTime, plain, grouped, common_steps, sum_by-append, ReadsTime, IsDecimal, None, ◌-◌, AllByRecursion-append, Choice, Decided, true_or_not}
+use Rattle.std.proofs.lemmas.List.{take_more}
+use Rattle.std.specs.Option.{is_some, unwrap_or}
+use Rattle.zone_rdata.specs.Machine.TimeProgress.{number_of}
 
 abbrev pub AreDigits : List ℕ → Type 0
 AreDigits text = AllByRecursion (λ c. is_digit c ≡ true) text
@@ -71,29 +73,98 @@ no_time groups digits rest text c n each all other none e time = elim (time_alon
 
 -- ---- octet by octet
 
-pub stops : (text rest : List ℕ) (c n : ℕ) (p : Progress) → is_digit c ≡ false → (0 < length text → IsTrue p.open → (u : ℕ) → unit_seconds c ≡ Some u → ⊥) → ReadsTime text p → IsTime (text ++ c ∷ rest) n → ⊥
-stops text rest c n p other none reads = no_time reads.groups reads.digits rest (text ++ c ∷ rest) c n reads.each reads.last other (λ some. none (grind (arith, reads.parts, length-append)) (reads.opened.1 some)) (grind (arith, reads.parts, append_assoc))
+number_more : (digits : List ℕ) (c : ℕ) → number_of (digits ++ c ∷ []) ≡ Some (min 4294967296 (unwrap_or (number_of digits) 0 * 10 + (c - 48)))
+number_more [] c = grind arith
+number_more (d ∷ digits) c = grind (arith, common_steps)
+
+number_some : (digits : List ℕ) (n : ℕ) → number_of digits ≡ Some n → (0 < length digits) × (n ≡ min 4294967296 (decimal_value digits))
+number_some [] n e = absurd cc
+number_some (d ∷ digits) n e = grind arith
+
+number_none : (digits : List ℕ) → number_of digits ≡ None → digits ≡ []
+number_none [] e = refl
+number_none (d ∷ digits) e = absurd cc
+
+-- a digit is read
+more_digits : (text : List ℕ) (c total : ℕ) (number : Option ℕ) → is_digit c ≡ true → ReadsTime text total number → ReadsTime (text ++ c ∷ []) total (Some (min 4294967296 (unwrap_or number 0 * 10 + (c - 48))))
+more_digits text c total number digit reads = record {
+  groups = reads.groups;
+  digits = reads.digits ++ c ∷ [];
+  parts = grind (arith, reads.parts, append_assoc);
+  each = reads.each;
+  last = AllByRecursion-append _ reads.digits (c ∷ []) reads.last (digit, tt);
+  summed = reads.summed;
+  stated = grind (arith, reads.stated, number_more reads.digits c);
+  few = reads.few;
+  short = omega arith;
+}
 
 -- a group closes
-pub more_groups : (text : List ℕ) (c unit : ℕ) (p next : Progress) → unit_seconds c ≡ Some unit → 0 < unit → p.open ≡ true → next.total ≡ min 4294967296 (p.total + p.number * unit) → next.grouped ≡ true → next.number ≡ 0 → next.open ≡ false → ReadsTime text p → ReadsTime (text ++ c ∷ []) next
-more_groups text c unit p next lasts some opens total groups number closed reads =
+more_groups : (text : List ℕ) (c unit total n : ℕ) (number : Option ℕ) → unit_seconds c ≡ Some unit → number ≡ Some n → ReadsTime text total number → ReadsTime (text ++ c ∷ []) (min 4294967296 (total + n * unit)) None
+more_groups text c unit total n number lasts some reads =
     let g : Group = record { digits = reads.digits; letter = c; unit = unit } in
     let sums = sum_by-append group_seconds reads.groups (g ∷ []) in
-    grind (arith, common_steps)
-
--- a text is read to its end
-pub ends_grouped : (text : List ℕ) (p : Progress) → p.grouped ≡ true → p.open ≡ false → ReadsTime text p → (m : ℕ) × (IsTime text m × (p.total ≡ min 4294967296 m))
-ends_grouped text p groups closed reads = (sum_by group_seconds reads.groups, (grouped reads.groups (reads.grouped.0 groups) reads.each (grind (arith, common_steps, append-nil)) refl, reads.total))
-
--- groups and digits after them are no time, nor is nothing
-pub ends_none : (text : List ℕ) (n : ℕ) (p : Progress) → p.grouped ≡ p.open → ReadsTime text p → IsTime text n → ⊥
-ends_none text n p same reads time = grind (arith, time_alone text n reads.groups reads.digits time reads.each (digits_alone reads.digits reads.last) reads.parts)
+    let own = number_some reads.digits n (sym reads.stated ∙ some) in
+    record {
+      groups = reads.groups ++ g ∷ [];
+      digits = [];
+      parts = grind (arith, reads.parts, flat_map-append, append_assoc);
+      each = AllByRecursion-append IsTimeGroup reads.groups (g ∷ []) reads.each (record { some = own.0; each = reads.last; lasts = lasts }, tt);
+      last = tt;
+      summed = grind (arith, reads.summed, own.1, sums);
+      stated = refl;
+      few = omega arith;
+      short = tt;
+    }
 
 -- an octet at which no time goes on
-pub time_stops : (text : List ℕ) (i d : ℕ) (p : Progress) → i < length text → ReadsTime (take i text) p → ((front rest : List ℕ) (n : ℕ) → ReadsTime front p → IsTime (front ++ get_or text i d ∷ rest) n → ⊥) → (m : ℕ) → IsTime text m → ⊥
-time_stops text i d p lt reads stopped m time =
+pub time_stops : (text : List ℕ) (i d total : ℕ) (number : Option ℕ) → i < length text → is_digit (get_or text i d) ≡ false → (number ≡ None) ⊎ (unit_seconds (get_or text i d) ≡ None) → ReadsTime (take i text) total number → (m : ℕ) → IsTime text m → ⊥
+time_stops text i d total number lt other stopped reads m time =
     let parts : text ≡ take i text ++ get_or text i d ∷ drop (i + 1) text = sym (take-append-drop i text) ∙ ap (λ t. take i text ++ t) (drop_more text i d lt) in
-    stopped (take i text) (drop (i + 1) text) m reads (subst (λ t. IsTime t m) parts time)
+    no_time reads.groups reads.digits (drop (i + 1) text) text (get_or text i d) m reads.each reads.last other
+    (λ some u e. elim stopped [
+      | inl none ↦ omega (arith, some, ap length (number_none reads.digits (sym reads.stated ∙ none)))
+      | inr none ↦ absurd cc
+    ])
+    (grind (arith, parts, reads.parts, append_assoc)) time
+
+some_groups : (text : List ℕ) (groups : List Group) → 0 < length text → text ≡ flat_map group_text groups → 0 < length groups
+some_groups text [] some e = absurd (omega (arith, some, ap length e))
+some_groups text (g ∷ groups) some e = omega arith
+
+-- a digit more is read
+pub digit_read : (text : List ℕ) (i d total : ℕ) (number next : Option ℕ) → i < length text → is_digit (get_or text i d) ≡ true → next ≡ Some (min 4294967296 (unwrap_or number 0 * 10 + (get_or text i d - 48))) → ReadsTime (take i text) total number → ReadsTime (take (i + 1) text) total next
+digit_read text i d total number next lt digit is reads =
+    subst (λ t. ReadsTime t total next) (sym (take_more text i d lt)) (subst (ReadsTime (take i text ++ get_or text i d ∷ []) total) (sym is) (more_digits (take i text) (get_or text i d) total number digit reads))
+
+-- a unit is read
+pub unit_read : (text : List ℕ) (i d total sum unit n : ℕ) (number : Option ℕ) → i < length text → unit_seconds (get_or text i d) ≡ Some unit → number ≡ Some n → sum ≡ min 4294967296 (total + n * unit) → ReadsTime (take i text) total number → ReadsTime (take (i + 1) text) sum None
+unit_read text i d total sum unit n number lt lasts some is reads =
+    subst (λ t. ReadsTime t sum None) (sym (take_more text i d lt)) (subst (λ k. ReadsTime (take i text ++ get_or text i d ∷ []) k None) (sym is) (more_groups (take i text) (get_or text i d) unit total n number lasts some reads))
+
+-- a text is read to its end
+pub ends_grouped : (text : List ℕ) (total : ℕ) (number : Option ℕ) → 0 < length text → is_some number ≡ false → ReadsTime text total number → (m : ℕ) × (IsTime text m × (total ≡ min 4294967296 m))
+ends_grouped text total None some closed reads =
+    let parts : text ≡ flat_map group_text reads.groups = reads.parts ∙ ap (λ d. flat_map group_text reads.groups ++ d) (number_none reads.digits (sym reads.stated)) ∙ append-nil (flat_map group_text reads.groups) in
+    (sum_by group_seconds reads.groups, (grouped reads.groups (some_groups text reads.groups some parts) reads.each parts refl, reads.summed))
+ends_grouped text total (Some n) some closed reads = absurd cc
+
+-- digits after groups are no time, nor is nothing
+pub ends_open : (text : List ℕ) (total m : ℕ) (number : Option ℕ) → is_some number ≡ true → ((k : ℕ) → IsDecimal text k → ⊥) → ReadsTime text total number → IsTime text m → ⊥
+ends_open text total m None opened none reads time = absurd cc
+ends_open text total m (Some n) opened none reads time =
+    let own = number_some reads.digits n (sym reads.stated) in
+    elim (time_alone text m reads.groups reads.digits time reads.each (digits_alone reads.digits reads.last) reads.parts) [
+      | inl alone ↦ none m (subst (λ t. IsDecimal t m) (sym (reads.parts ∙ ap (λ g. flat_map group_text g ++ reads.digits) alone.0)) (record { some = own.0; digits = reads.last; value = alone.3 }))
+      | inr alone ↦ omega (arith, own.0, ap length alone.0)
+    ]
+
+pub none_empty : (text : List ℕ) (m : ℕ) → length text ≡ 0 → IsTime text m → ⊥
+none_empty [] m e time = elim (time_alone [] m [] [] time tt (digits_alone [] tt) refl) [
+  | inl alone ↦ omega (arith, alone.2)
+  | inr alone ↦ omega (arith, alone.1)
+]
+none_empty (c ∷ text) m e time = omega (arith, e)
 
 -- ---- a text states a time or none
 

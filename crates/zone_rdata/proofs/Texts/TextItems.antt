@@ -102,4 +102,8 @@ stated_for names origin (Some row) octets table short each value =
     let sound = table row refl in
     in_words row values refl (fields_unmarked row values sound.sized value.held) (each_spelt names origin row values sound.last sound.sized value.held) (sym value.whole) short
 
+-- and so is what is printed for its layout
+pub printed_as : (laid : Option (List Field)) (held d : Data) → held ≡ d → IsRdata held → laid ≡ layout held.class held.kind → laid_out_text laid held.octets ≡ data_text d
+printed_as laid held d is h e = ap (λ l. laid_out_text l held.octets) e ∙ data_written held h ∙ ap data_text is
+
 pub ruleset printed_data = (data_written, table_sized)

@@ -26,23 +26,6 @@ fn push_number(text: &mut ArrayVec<u8, ROOM>, octet: u8)
     text.push(b'0' + octet % 10);
 }
 
-/// The text of four octets (RFC 1035 3.4.1).
-fn text_of_ipv4(octets: &[u8]) -> ArrayVec<u8, ROOM>
-    requires { length octets.now ≡ 4 }
-    ensures written { result.items ≡ ipv4_text octets.now }
-    ensures short { array_vec_len result ≤ 15 }
-{
-    let mut text = ArrayVec::new();
-    push_number(&mut text, octets[0]);
-    text.push(b'.');
-    push_number(&mut text, octets[1]);
-    text.push(b'.');
-    push_number(&mut text, octets[2]);
-    text.push(b'.');
-    push_number(&mut text, octets[3]);
-    text
-}
-
 /// The hexadecimal digits, in lower case (RFC 5952 4.3).
 const DIGITS: &[u8; 16] = b"0123456789abcdef";
 
@@ -108,28 +91,6 @@ fn longest_zero_run(groups: &[u16]) -> (usize, usize)
     (start, len)
 }
 
-/// The text of sixteen octets (RFC 5952 4).
-fn text_of_ipv6(octets: &[u8]) -> ArrayVec<u8, ROOM>
-    requires { length octets.now ≡ 16 }
-    ensures written { result.items ≡ ipv6_text octets.now }
-    ensures short { array_vec_len result ≤ 39 }
-{
-    let mut sixteen = [0; 16];
-    sixteen.copy_from_slice(octets);
-    let groups = Ipv6Addr::from_octets(sixteen).segments();
-    let (start, len) = longest_zero_run(&groups);
-    let mut text = ArrayVec::new();
-    if len < 2 {
-        push_groups(&mut text, &groups);
-        return text;
-    }
-    push_groups(&mut text, &groups[..start]);
-    text.push(b':');
-    text.push(b':');
-    push_groups(&mut text, &groups[start + len..]);
-    text
-}
-
 /// Appends the text of four octets: four decimal numbers without leading zeros.
 ///
 /// # Errors
@@ -140,7 +101,15 @@ pub fn push_ipv4<S: Sink>(octets: &[u8], out: &mut S) -> Result<(), S::Error>
     ensures ok { OnOk result (S.takes out.old (ipv4_text octets.now) out.new) }
     ensures err { OnErr result (S.takes out.old [] out.new) }
 {
-    out.push(text_of_ipv4(octets).as_slice())
+    let mut text = ArrayVec::new();
+    push_number(&mut text, octets[0]);
+    text.push(b'.');
+    push_number(&mut text, octets[1]);
+    text.push(b'.');
+    push_number(&mut text, octets[2]);
+    text.push(b'.');
+    push_number(&mut text, octets[3]);
+    out.push(text.as_slice())
 }
 
 /// Appends the text of sixteen octets, groups with `::` for their longest run of zeros (RFC 5952
@@ -154,5 +123,18 @@ pub fn push_ipv6<S: Sink>(octets: &[u8], out: &mut S) -> Result<(), S::Error>
     ensures ok { OnOk result (S.takes out.old (ipv6_text octets.now) out.new) }
     ensures err { OnErr result (S.takes out.old [] out.new) }
 {
-    out.push(text_of_ipv6(octets).as_slice())
+    let mut sixteen = [0; 16];
+    sixteen.copy_from_slice(octets);
+    let groups = Ipv6Addr::from_octets(sixteen).segments();
+    let (start, len) = longest_zero_run(&groups);
+    let mut text = ArrayVec::new();
+    if len < 2 {
+        push_groups(&mut text, &groups);
+    } else {
+        push_groups(&mut text, &groups[..start]);
+        text.push(b':');
+        text.push(b':');
+        push_groups(&mut text, &groups[start + len..]);
+    }
+    out.push(text.as_slice())
 }

@@ -1,4 +1,4 @@
-ghost use Rattle.std.specs.Prelude.{◌≡◌, ◌↔◌, ◌<◌, length, map, IsTrue, IfOk, IfErr, OnOk, OnErr};
+ghost use Rattle.std.specs.Prelude.{◌≡◌, ◌<◌, length, map, IfOk, IfErr, OnOk, OnErr};
 ghost use Rattle.std.specs.List.{flat_map, join_with_byte};
 ghost use Rattle.zone_name.specs.Sink.{TakesSome};
 ghost use Rattle.zone_rdata.specs.Strings.{string_text};
@@ -8,11 +8,10 @@ ghost use Rattle.zone_rdata.specs.Fields.Strings.{SpellsStrings, StringsFault, s
 ghost use Rattle.zone_rdata.specs.Item.{raw};
 ghost use Rattle.zone_rdata.specs.Appended.{Appends};
 ghost use Rattle.zone_rdata.specs.Machine.Appending.{AppendsValue, BeginsWithNone};
-ghost use Rattle.zone_rdata.specs.Machine.Fronts.{AreWithLengths, HoldsStrings};
+ghost use Rattle.zone_rdata.specs.Machine.Fronts.{HoldsStrings};
 
 use super::Field;
-use super::prefix::push_prefix;
-use super::string::split_string;
+use super::string::{push_sent_string, split_string};
 use crate::cause::Cause;
 use crate::fault::Fault;
 use crate::item::Item;
@@ -38,7 +37,7 @@ pub(crate) fn push_strings(items: &[Item], octets: &mut Vec<u8>) -> Result<(), N
 }
 
 /// Appends octets that are one string or more, each after its length.
-#[tactic(auto, using(crate::proofs::Fields::Strings::appends_strings))]
+#[tactic(auto, using(crate::proofs::Fields::Strings::pushed_strings))]
 pub(crate) fn push_sent_strings<'o>(
     octets: &'o [u8],
     canonical: &mut Vec<u8>,
@@ -48,29 +47,11 @@ pub(crate) fn push_sent_strings<'o>(
     ensures fault { IfErr result
         (IfFault (λ f. (f ≡ Fault.BadRdata) × BeginsWithNone Field.Strings octets.now)) }
 {
-    if !are_strings(octets) {
-        return Err(NarrowFailing::of(Cause::BadRdata));
+    let mut rest = push_sent_string(octets, canonical)?;
+    while !rest.is_empty() {
+        rest = push_sent_string(rest, canonical)?;
     }
-    push_prefix(octets.len(), octets, canonical)
-}
-
-/// Whether octets are one string or more, each after its length.
-#[tactic(auto, using(crate::proofs::Fields::Strings::framed_empty))]
-fn are_strings(octets: &[u8]) -> bool
-    ensures { IsTrue result ↔ AreWithLengths octets.now }
-{
-    if octets.is_empty() {
-        return false;
-    }
-    let mut rest = octets;
-    while let Some((first, following)) = rest.split_first() {
-        let count = usize::from(*first);
-        if following.len() < count {
-            return false;
-        }
-        rest = following.split_at(count).1;
-    }
-    true
+    Ok(rest)
 }
 
 /// Appends the strings in quotes, parted by single spaces.
