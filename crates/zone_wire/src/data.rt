@@ -2,8 +2,8 @@
 ghost use Rattle.std.specs.Prelude.{◌≡◌, [], Err, Some, IfOk, IfErr, OnOk};
 ghost use Rattle.zone_rdata.specs.Fault.{IfFault};
 ghost use Rattle.zone_rdata.specs.Layout.{fields_of, layout};
-ghost use Rattle.zone_wire.specs.DataFault.{DataFault};
-ghost use Rattle.zone_wire.specs.Transfer.{IsDataAt};
+ghost use Rattle.zone_wire.specs.AnswerFault.{OwnFault};
+ghost use Rattle.zone_wire.specs.Transfer.{IsDataAt, IsReadable};
 ghost use Rattle.zone_wire.specs.Machine.Data.{data_at, values_at};
 ghost use Rattle.zone_wire.specs.Machine.DataReading.{AwaitsStrings, IsReadyFor, IsRead, PutsValue, PutsValues, next_value};
 
@@ -113,23 +113,18 @@ impl<'m, 'r> RawRrRef<'m, 'r> {
         }
     }
 
-    /// The record's data, in the memory of other data. The room is for the labels of names in it.
+    /// The record's data, in the memory of other data, if a zone can have its class and its type and
+    /// the type is read. The room is for the labels of names in it.
     #[inline(always)]
-    pub(crate) fn rdata(
-        &self,
-        class: Class,
-        kind: Kind,
-        labels: &mut LabelRoom,
-        other: Rdata,
-    ) -> Result<Rdata, NarrowFailing>
-        requires class { class ≡ self.now.at.class }
-        requires kind { kind ≡ self.now.at.kind }
-        ensures class { IfOk result (λ d. d.class ≡ class) }
-        ensures kind { IfOk result (λ d. d.kind ≡ kind) }
+    pub(crate) fn rdata(&self, labels: &mut LabelRoom, other: Rdata) -> Result<Rdata, NarrowFailing>
+        ensures class { IfOk result (λ d. d.class ≡ self.now.at.class) }
+        ensures kind { IfOk result (λ d. d.kind ≡ self.now.at.kind) }
+        ensures readable { IfOk result (λ _. IsReadable self.now.at.kind) }
         ensures found { IfOk result (λ d. IsDataAt self.now.octets self.now.at d.octets) }
-        ensures fault { IfErr result (IfFault (DataFault self.now.octets self.now.at)) }
+        ensures fault { IfErr result (IfFault (OwnFault self.now.octets self.now.at)) }
     {
         are_octets(self.fields.message);
+        let (class, kind) = self.class_and_kind()?;
         let mut builder = RdataBuilder::reusing(other, class, kind);
         self.push_data(class, kind, labels, &mut builder)?;
         match builder.finish() {
