@@ -40,7 +40,7 @@ pub fn name_at(message: &[u8], offset: usize) -> Result<Decoded, (Fault, u16)>
     let mut labels = LabelRoom::new();
     match read_name(message, offset, false, &mut labels) {
         Ok((end, steps)) => Ok(Decoded {
-            name: labels.finish(),
+            name: labels.lend().to_name(),
             end,
             steps,
         }),

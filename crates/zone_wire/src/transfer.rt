@@ -118,7 +118,8 @@ impl Transfer {
         ensures count { self.new.messages ≤ self.old.messages + 1 }
     {
         let id = message.id();
-        if self.id.unwrap_or(id) != id {
+        let first = self.id.unwrap_or(id);
+        if first != id {
             return Err((Cause::IdMismatch, 0));
         }
         if let Some(question) = message.question() {
@@ -152,7 +153,7 @@ impl Transfer {
         let mut answers = message.answers();
         let (mut owner, mut labels) = (LabelRoom::new(), LabelRoom::new());
         while let Some(answer) = answers.next_in(&mut owner) {
-            let offset = answer.offset();
+            let offset = answer.fields.offset;
             match self.take_answer(&answer, &mut labels, rdata) {
                 Ok(()) => {}
                 Err(failing) => return Err((failing, offset)),
@@ -190,7 +191,7 @@ impl Transfer {
             return Ok(());
         }
         let owner = answer.owner.copy();
-        let place = Place::Message(self.messages, answer.offset());
+        let place = Place::Message(self.messages, answer.fields.offset);
         self.decided
             .placed
             .push_exchanged(owner, ttl, rdata, place)?;

@@ -267,5 +267,3 @@ module _ (raw now : RawRecord) (view : raw ≡ now) (class kind : ℕ) (same_cla
   opaque_taken fault row short bad = octets_are_taken raw.octets raw.at class kind (same_class ∙ ap (λ (v : RawRecord). v.at.class) (sym view)) (same_kind ∙ ap (λ (v : RawRecord). v.at.kind) (sym view)) old new fault row short bad
 
 pub ruleset strings_pushed = (string_missing, string_put, all_put)
-
-pub ruleset data_pushed = (laid_read, opaque_read, on_ok_weaker)

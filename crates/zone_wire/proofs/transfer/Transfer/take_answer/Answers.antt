@@ -26,7 +26,7 @@ returns-clause-taken c = λ questions placed among.
     let states = stated _ c.args.answer.now c.answer.view_is _ _ _ c.in_ok-rdata.field-0 rr made c.of_parts-rr.ensures.record refl refl c.in_ok-rdata.ensures.class c.in_ok-rdata.ensures.kind c.counted_ttl-ttl.ensures.value c.in_ok-rdata.ensures.found c.in_ok-rdata.ensures.readable in
     let stands = order_stands questions placed rr (sym (c.in_default.ensures questions placed among)) in
     let same : record_with c.copy-owner.result c.counted_ttl-ttl.result c.in_ok-rdata.field-0 ≡ rr = rw c.copy-owner.ensures (sym made) in
-    let items = rw (c.offset.ensures, same) at c.in_ok-push_exchanged.ensures.appended in
+    let items = rw (ap (λ r. r.at.offset) c.answer.view_is, same) at c.in_ok-push_exchanged.ensures.appended in
     let after : Transfer → List Placed = λ t. t.decided.placed ++ here_at rr t.messages offset ∷ [] in
     let mid = record old { decided = record old.decided { placed = c.push_exchanged.new.self } } in
     elim c.if-is_none.branch [

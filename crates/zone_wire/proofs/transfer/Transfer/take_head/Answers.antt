@@ -4,13 +4,13 @@ use Rattle.zone_wire.proofs.Transfers.Progress.{has_first_id, no_first_id, asked
 use Rattle.zone_wire.proofs.transfer.Transfer.take_head.Goals as goal
 use Rattle.zone_wire.proofs.transfer.Transfer.take_head.Goals.{then-question-ne-AXFR-via-then-question-ne-AXFR, then-question-ne-AXFR-via-else-question-ne-AXFR+then-not-is_of_zone, in-Some+else-question-ne-AXFR+else-not-is_of_zone, in_default}
 
-pub returns-then-unwrap_or-id-clause-fault : goal.returns-then-unwrap_or-id-clause-fault
-returns-then-unwrap_or-id-clause-fault c = λ before after. other_id (no_first_id before c.args.message.now.sections c.args.self.now.id after.id (λ h.
-    c.if-unwrap_or-id.true (c.unwrap_or.ensures ∙ subst (λ n. unwrap_or c.args.self.now.id n ≡ n) (sym c.id-id.ensures) h)))
+pub returns-then-first-id-clause-fault : goal.returns-then-first-id-clause-fault
+returns-then-first-id-clause-fault c = λ before after. other_id (no_first_id before c.args.message.now.sections c.args.self.now.id after.id (λ h.
+    c.if-first-id.true (c.unwrap_or-first.ensures ∙ subst (λ n. unwrap_or c.args.self.now.id n ≡ n) (sym c.id-id.ensures) h)))
 
 pub returns-then-question-ne-AXFR-clause-fault : goal.returns-then-question-ne-AXFR-clause-fault
 returns-then-question-ne-AXFR-clause-fault c = λ before after.
-    let has = has_first_id before c.args.message.now.sections c.args.self.now.id after.id (subst (λ n. unwrap_or c.args.self.now.id n ≡ n) c.id-id.ensures (sym c.unwrap_or.ensures ∙ c.if-unwrap_or-id.false)) in
+    let has = has_first_id before c.args.message.now.sections c.args.self.now.id after.id (subst (λ n. unwrap_or c.args.self.now.id n ≡ n) c.id-id.ensures (sym c.unwrap_or-first.ensures ∙ c.if-first-id.false)) in
     let q = asked_one c.args.message.now.sections.questions c.in-Some.question c.in-Some.ensures in
     other_zone has (asks_other before c.args.message.now.sections c.args.self.now q.at after q.one (λ kind agree. elim c.then-question-ne-AXFR.branch [
       | then-question-ne-AXFR-via-then-question-ne-AXFR w ↦ w.if-question-ne-AXFR.true (sym (ap (λ x. x.kind) q.same) ∙ kind)
@@ -26,7 +26,7 @@ returns-then-question-ne-AXFR-clause-fault c = λ before after.
 
 pub returns-clause-taken : goal.returns-clause-taken
 returns-clause-taken c = λ before after.
-    let has = has_first_id before c.args.message.now.sections c.args.self.now.id after.id (subst (λ n. unwrap_or c.args.self.now.id n ≡ n) c.id-id.ensures (sym c.unwrap_or.ensures ∙ c.if-unwrap_or-id.false)) in
+    let has = has_first_id before c.args.message.now.sections c.args.self.now.id after.id (subst (λ n. unwrap_or c.args.self.now.id n ≡ n) c.id-id.ensures (sym c.unwrap_or-first.ensures ∙ c.if-first-id.false)) in
     elim c.match-question.branch [
       | in-Some+else-question-ne-AXFR+else-not-is_of_zone w ↦
           (let q = asked_one c.args.message.now.sections.questions w.in-Some.question w.in-Some.ensures in
