@@ -16,7 +16,7 @@ use crate::message::Message;
 use crate::record::counted_ttl;
 use std::alloc::{AllocError, Global};
 use std::mem::replace;
-use zone_name::Name;
+use zone_name::{Name, NameRef};
 use zone_rdata::{Cause, NarrowFailing, PendingRecords, Place, Rdata, Rr, RrRef};
 
 /// The number of the query type AXFR, of a whole zone (RFC 5936 2.1.2).
@@ -123,7 +123,7 @@ impl Transfer {
             return Err((Cause::IdMismatch, 0));
         }
         if let Some(question) = message.question() {
-            if question.kind != AXFR || !self.is_of_zone(&question.name, question.class) {
+            if question.kind != AXFR || !self.is_of_zone(&question.name.lend(), question.class) {
                 return Err((Cause::BadQuestion, HEADER_LEN));
             }
             self.zone = Some(FixedZone {
@@ -226,9 +226,7 @@ impl Transfer {
     {
         match &self.opening {
             None if !rr.kind.is_soa() => Some(Cause::NoOpeningSoa),
-            None if !self.is_of_zone(&rr.owner.to_name(), rr.class.number()) => Some(
-                Cause::BadQuestion,
-            ),
+            None if !self.is_of_zone(&rr.owner, rr.class.number()) => Some(Cause::BadQuestion),
             None => None,
             Some(_) if self.closed => Some(Cause::AfterClosing),
             Some(opening) if rr.kind.is_soa() && !is_same(rr, opening) => Some(Cause::SoaMismatch),
@@ -237,12 +235,11 @@ impl Transfer {
     }
 
     /// Whether a name and a class are those of the zone, if it is fixed.
-    #[tactic(auto, using(crate::proofs::Transfers::Progress::reversed_same))]
-    fn is_of_zone(&self, name: &Name, class: u16) -> bool
+    fn is_of_zone(&self, name: &NameRef<'_>, class: u16) -> bool
         ensures { result ≡ agrees (zone_held self.now.zone) name.now class }
     {
         match &self.zone {
-            Some(zone) => *name == zone.name && class == zone.class,
+            Some(zone) => name.is_same(&zone.name.lend()) && class == zone.class,
             None => true,
         }
     }

@@ -173,11 +173,9 @@ asked_one [] q e = cc
 asked_one (x ∷ []) q e = record { at = x; one = refl; same = cc }
 asked_one (x ∷ y ∷ questions) q e = cc
 
--- names that are compared from their ends
-pub reversed_same : (n m : List (List ℕ)) → pointwise (pointwise nat_eq) (reverse n) (reverse m) ≡ same_name n m
-reversed_same n m = same_from_decides _ _
-    (λ e. sym (reverse-reverse n) ∙ ap reverse (names_equal (reverse n) (reverse m) e) ∙ reverse-reverse m, λ e. names_same (reverse n) (reverse m) (ap reverse e))
-    (names_equal n m, names_same n m)
+-- a test that tells whether names are equal
+pub told_name : (b : Bool) (n m : List (List ℕ)) → (b ≡ true ↔ n ≡ m) → b ≡ same_name n m
+told_name b n m tells = same_from_decides b (same_name n m) tells (names_equal n m, names_same n m)
 
 -- a test that tells whether records are equal
 pub told_same : (b : Bool) (r s : Record) → (b ≡ true ↔ r ≡ s) → b ≡ same_record r s

@@ -33,7 +33,7 @@ returns-clause-taken c = λ before after.
           let held : Question → Option ZoneAsked = λ x. Some (record { name = x.name; class = x.class }) in
           takes_one before c.args.message.now.sections c.args.self.now _ c.id-id.result q.at after q.one c.id-id.ensures has
           (ap (λ x. x.kind) q.same ∙ w.if-question-ne-AXFR.false)
-          (agrees_by (zone_held c.args.self.now.zone) q.at.name q.at.class (ap (λ x. agrees (zone_held c.args.self.now.zone) x.name x.class) q.same ∙ sym w.is_of_zone.ensures ∙ w.if-not-is_of_zone.false))
+          (agrees_by (zone_held c.args.self.now.zone) q.at.name q.at.class (ap (λ x. agrees (zone_held c.args.self.now.zone) x.name x.class) q.same ∙ sym (rw w.lend.ensures.value at w.is_of_zone.ensures) ∙ w.if-not-is_of_zone.false))
           (ap (λ t. t.messages + 1) w.self-is) refl
           (ap (λ t. zone_held t.zone) w.self-is ∙ ap held (sym q.same))
           (ap (λ t. t.opening) w.self-is) (ap (λ t. t.closed) w.self-is))
