@@ -58,7 +58,7 @@ pub use Rattle.zone_text.specs.Line.{IsItem, StatesWhole, line_of}
 pub use Rattle.zone_text.specs.Machine.Cutting.{Cutting, Front, Sign, a_blank, a_closing, a_line_feed, a_quote, a_semicolon, an_opening, bare_front, cut_on, depth_past, end_front, front_by, of_item, quoted_front, sign_of, stops, takes}
 unfoldable pub use Rattle.zone_text.specs.Machine.Cutting.{before_line_feed, cut_by, cutting, from_line_feed, front_of}
 pub use Rattle.zone_text.proofs.Entries.Heads.{HasHeadOf, Head}
-pub use Rattle.zone_text.specs.Machine.EntryReading.{DecidesEntry, HasOwnerOrNone, IsRecordEntry, decides_fault, decides_none, decides_one, one_bare, with_owner}
+pub use Rattle.zone_text.specs.Machine.EntryReading.{AppendsRecord, DecidesEntry, HasOwnerOrNone, IsRecordEntry, decides_fault, decides_none, decides_one, one_bare, with_owner}
 pub use Rattle.zone_text.specs.Machine.Feeding.{Follow, IsSplitter, ReadsEntry, ReadsOctets, state_of}
 pub use Rattle.zone_text.specs.Machine.ItemLengths.{EndsAt, ends_within, stops_bare, stops_within}
 pub use Rattle.zone_text.specs.Machine.Kept.{IsShort, Keeps, KeepsBare}

@@ -14,16 +14,9 @@ pub fn line_feeds(octets: &[u8]) -> usize
 {
     match octets.split_last() {
         // Most entries are one line.
-        Some((b'\n', front)) if !front.contains(&b'\n') => 1,
-        _ => counted(octets),
+        Some((b'\n', front)) if !front.contains(&b'\n') => return 1,
+        _ => {}
     }
-}
-
-/// As `line_feeds`, of octets of which nothing is known.
-fn counted(octets: &[u8]) -> usize
-    ensures count { result ≡ count_by (λ c. c == 10) octets.now }
-    ensures few { result ≤ length octets.now }
-{
     let (mut count, mut rest) = (0, octets);
     while rest.len() >= LANES {
         count += counted_ahead(rest);

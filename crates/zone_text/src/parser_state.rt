@@ -1,12 +1,14 @@
-ghost use Rattle.std.specs.Prelude.{◌≡◌, List, [], map, None, Some, IfErr, IfOk, OnOk};
+ghost use Rattle.std.specs.Prelude.{◌≡◌, List, [], map, None, Some, IfErr, IfOk, OnErr, OnOk};
 ghost use Rattle.zone_name.specs.Common.{Labels};
 ghost use Rattle.zone_name.specs.Spelling.{SpellingFault};
 ghost use Rattle.zone_rdata.specs.Cause.{fault_for};
+ghost use Rattle.zone_rdata.specs.Fault.{IfFault};
 ghost use Rattle.zone_rdata.specs.Item.{raw};
 ghost use Rattle.zone_text.specs.ParserState.{IsStateAfter};
 ghost use Rattle.zone_text.specs.Entries.{Entry};
 ghost use Rattle.zone_text.specs.EntryFault.{EntryFault};
-ghost use Rattle.zone_text.specs.Statements.{statement_of, owned};
+ghost use Rattle.zone_text.specs.FileReads.{Ending};
+ghost use Rattle.zone_text.specs.Statements.{statement_of};
 ghost use Rattle.zone_text.specs.Machine.EntryReading.{DecidesEntry, LeavesNoRecord, SetsOwner, one_bare};
 ghost use Rattle.zone_text.specs.Stated.{directive_in, statement_in};
 
@@ -16,7 +18,9 @@ use crate::statements::{Directive, Statement};
 use crate::words::{split_bare, ttl_in};
 use std::alloc::{AllocError, Global};
 use zone_name::{Name, NameFault};
-use zone_rdata::{Cause, Class, Fault, Item, NarrowFailing, PendingRecords, Place, Rdata};
+use zone_rdata::{
+    Cause, Class, Fault, Item, NarrowFailing, PendingRecords, Place, Rdata, RecordQueue,
+};
 
 /// What the entries of a master file leave to those after them (RFC 1035 5.1, RFC 2308 4).
 #[derive(Debug, Drop)]
@@ -85,14 +89,44 @@ impl ParserState {
             → OnOk result
             (DecidesEntry origin before entry place decided.old decided.new self.new) }
     {
+        match self.take(parsed, place, &mut decided.placed) {
+            Ok(()) => Ok(()),
+            Err(failing) => decided.refuse(failing, place),
+        }
+    }
+
+    /// Takes what an entry states: a record comes after others.
+    ///
+    /// # Errors
+    ///
+    /// The first fault of the entry, and `Memory`. The others are unchanged.
+    fn take(
+        &mut self,
+        parsed: Statement,
+        place: Place,
+        others: &mut RecordQueue,
+    ) -> Result<(), NarrowFailing>
+        ensures found { (origin : Labels) (before : List Entry) (entry : Entry) (ending : Ending)
+            → IsStateAfter origin before self.old → statement_of entry ≡ statement_in parsed.entry
+            → OnOk result (DecidesEntry origin before entry place
+            (record { placed = others.old; ending = ending })
+            (record { placed = others.new; ending = ending }) self.new) }
+        ensures fault { (origin : Labels) (before : List Entry) (entry : Entry)
+            → IsStateAfter origin before self.old → statement_of entry ≡ statement_in parsed.entry
+            → IfErr result (IfFault (EntryFault origin before entry)) }
+        ensures unchanged { OnErr result (others.new ≡ others.old) }
+    {
         match parsed {
             Statement::Blank => Ok(()),
-            Statement::Directive(directive) => match self.follow(directive) {
-                Ok(()) => Ok(()),
-                Err(cause) => decided.refuse(NarrowFailing::of(cause), place),
-            },
-            Statement::Owned(owner, items) => self.read_owned(owner, items, place, decided),
-            Statement::Unowned(items) => self.read_record(items, place, decided),
+            Statement::Directive(directive) => Ok(self.follow(directive)?),
+            Statement::Owned(owner, items) => {
+                let Item::Bare(text) = owner else {
+                    return Err(NarrowFailing::of(Cause::NoOwner));
+                };
+                self.set_owner(text)?;
+                self.append_record(items, place, others)
+            }
+            Statement::Unowned(items) => self.append_record(items, place, others),
         }
     }
 
@@ -127,29 +161,6 @@ impl ParserState {
             }
             Directive::Include => Err(Cause::IncludeDirective),
             Directive::Unknown => Err(Cause::UnknownDirective),
-        }
-    }
-
-    /// Reads an entry that states its owner.
-    fn read_owned(
-        &mut self,
-        owner: Item,
-        items: &[Item],
-        place: Place,
-        decided: &mut PendingRecords,
-    ) -> Result<(), AllocError>
-        ensures { (origin : Labels) (before : List Entry) (entry : Entry)
-            → IsStateAfter origin before self.old → statement_of entry ≡ owned (raw owner.entry)
-            (map raw items.now)
-            → OnOk result
-            (DecidesEntry origin before entry place decided.old decided.new self.new) }
-    {
-        let Item::Bare(text) = owner else {
-            return decided.refuse(NarrowFailing::of(Cause::NoOwner), place);
-        };
-        match self.set_owner(text) {
-            Ok(()) => self.read_record(items, place, decided),
-            Err(fault) => decided.refuse(NarrowFailing::from(fault), place),
         }
     }
 

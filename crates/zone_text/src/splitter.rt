@@ -1,6 +1,7 @@
 //! Octets of a master file as they come in pieces: the entries that they end, and the one that they
 //! leave unfinished.
-ghost use Rattle.std.specs.Prelude.{◌≡◌, ◌+◌, ◌<◌, ◌≤◌, ◌^◌, [], length, IfOk, IfSome, IsOk, OnOk, None};
+ghost use Rattle.std.specs.Prelude.{◌≡◌, ◌+◌, ◌<◌, ◌≤◌, ◌^◌, [], length, IfOk, IfSome, IsOk, OnOk, None, Some};
+ghost use Rattle.zone_rdata.specs.declared.fault.Place.TheVariants.{Line};
 ghost use Rattle.zone_text.specs.Machine.Feeding.{Follow, FollowOn, IsSplitter, reach, ReadsAll, ReadsOctets, TakesPart};
 ghost use Rattle.zone_text.specs.declared.open_entry.EntryState.TheVariants.{Open};
 
@@ -13,7 +14,7 @@ use crate::stops::Stops;
 use crate::walk::{Reached, walk};
 use std::alloc::{AllocError, Global};
 use zone_name::Name;
-use zone_rdata::{PendingRecords, Place};
+use zone_rdata::{Fault, PendingRecords, Place};
 
 /// How many octets the unfinished entry takes at once. It copies them, and mostly ends soon.
 const AT_ONCE: usize = 1024;
@@ -89,17 +90,11 @@ impl EntrySplitter {
         let taken = self.unfinished.take(some)?;
         let (_, left) = octets.split_at(taken.len);
         match taken.state {
-            EntryState::Open => Ok(left),
-            EntryState::Ended => {
-                self.end_entry()?;
-                Ok(left)
-            }
-            EntryState::Broken(fault) => {
-                self.ended.decided.ending = Some((fault, Place::Line(self.ended.line)));
-                self.unfinished.clear();
-                Ok(left)
-            }
+            EntryState::Open => {}
+            EntryState::Ended => self.end_entry()?,
+            EntryState::Broken(fault) => self.refuse(fault),
         }
+        Ok(left)
     }
 
     /// Reads the entry that the octets held are, and lets go of them.
@@ -121,6 +116,18 @@ impl EntrySplitter {
         Ok(())
     }
 
+    /// Decides the fault of the entry that the octets held begin, and lets go of them.
+    fn refuse(&mut self, fault: Fault)
+        ensures line { self.new.ended.line ≡ self.old.ended.line }
+        ensures records { self.new.ended.decided.placed ≡ self.old.ended.decided.placed }
+        ensures ending { self.new.ended.decided.ending ≡ Some (fault, Line self.old.ended.line) }
+        ensures none { self.new.unfinished.octets ≡ [] }
+        ensures state { self.new.unfinished.state ≡ Open }
+    {
+        self.ended.decided.ending = Some((fault, Place::Line(self.ended.line)));
+        self.unfinished.clear();
+    }
+
     /// Takes the end of the file.
     pub(crate) fn finish(&mut self) -> Result<(), AllocError>
         requires is { IsSplitter self.old.ended self.old.unfinished }
@@ -137,8 +144,7 @@ impl EntrySplitter {
         }
         match self.unfinished.end_fault() {
             Some(fault) => {
-                self.ended.decided.ending = Some((fault, Place::Line(self.ended.line)));
-                self.unfinished.clear();
+                self.refuse(fault);
                 Ok(())
             }
             None => self.end_entry(),

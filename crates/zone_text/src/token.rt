@@ -23,31 +23,17 @@ pub(crate) enum Span {
     Lost(usize),
 }
 
-/// Whether the octet is a digit.
-fn is_digit(octet: u8) -> bool
-    ensures { result ≡ is_digit octet }
-{
-    octet.is_ascii_digit()
-}
-
 /// How many of the octets after a backslash that begins no escape show this. `None`: they end where
 /// an escape may go on.
 fn lost_len(after: &[u8]) -> Option<usize>
     ensures { IsBadEscape (92 ∷ after.now) → IsLostBy after.now result }
 {
-    let Some((first, digits)) = after.split_first() else {
-        return None;
-    };
-    if !is_digit(*first) {
-        return Some(1);
+    match after {
+        [first, ..] if !first.is_ascii_digit() => Some(1),
+        [_, second, ..] if !second.is_ascii_digit() => Some(2),
+        [_, _, _, ..] => Some(3),
+        _ => None,
     }
-    let Some((second, rest)) = digits.split_first() else {
-        return None;
-    };
-    if !is_digit(*second) {
-        return Some(2);
-    }
-    if rest.is_empty() { None } else { Some(3) }
 }
 
 /// How far an item goes, without its quotes, of which so many octets are known to be whole units.

@@ -1,7 +1,5 @@
-ghost use Rattle.std.specs.Prelude.{◌≡◌, ◌+◌, ◌≤◌, [], ◌∷◌, length, IfSome, IfNone};
-ghost use Rattle.zone_wire.specs.Message.{RecordAt, IsRecordAt, record_by};
-ghost use Rattle.zone_wire.specs.Name.{Found};
-ghost use Rattle.zone_wire.specs.View.{raw_at, raw_with};
+ghost use Rattle.std.specs.Prelude.{◌≡◌, [], ◌∷◌, IfSome, IfNone};
+ghost use Rattle.zone_wire.specs.Message.{RecordAt, IsRecordAt};
 
 use crate::header::RECORD_HEAD_LEN;
 use crate::labels::LabelRoom;
@@ -81,20 +79,8 @@ fn record_at<'m, 'r>(
     let Ok((end, _)) = read_name(message, offset, true, labels) else {
         unreachable!()
     };
-    RawRrRef {
-        owner: labels.lend(),
-        fields: fields_after(message, offset, end),
-    }
-}
-
-/// What the record that begins at an offset has after its owner, which ends at another.
-fn fields_after(message: &[u8], offset: usize, end: usize) -> RawFields<'_>
-    requires { end + RECORD_HEAD_LEN ≤ length message.now }
-    ensures { (found : Found) → found.end ≡ end → raw_with found.labels result
-        ≡ raw_at message.now (record_by message.now offset found) }
-{
     let start = end + RECORD_HEAD_LEN;
-    RawFields {
+    let fields = RawFields {
         message,
         offset,
         kind: u16_at(message, end),
@@ -102,5 +88,9 @@ fn fields_after(message: &[u8], offset: usize, end: usize) -> RawFields<'_>
         ttl: u32_at(message, end + 4),
         start,
         end: start + u16_at(message, end + 8) as usize,
+    };
+    RawRrRef {
+        owner: labels.lend(),
+        fields,
     }
 }

@@ -2,16 +2,16 @@
 ghost use Rattle.std.specs.Prelude.{◌≡◌, [], Err, Some, IfOk, IfErr, OnOk};
 ghost use Rattle.zone_rdata.specs.Fault.{IfFault};
 ghost use Rattle.zone_rdata.specs.Layout.{fields_of, layout};
-ghost use Rattle.zone_wire.specs.DataFault.{DataFault};
-ghost use Rattle.zone_wire.specs.Transfer.{IsDataAt};
-ghost use Rattle.zone_wire.specs.Machine.Data.{data_at, values_at};
-ghost use Rattle.zone_wire.specs.Machine.DataReading.{AwaitsStrings, IsReadyFor, IsRead, PutsValue, PutsValues, next_value};
+ghost use Rattle.zone_wire.specs.AnswerFault.{OwnFault};
+ghost use Rattle.zone_wire.specs.Transfer.{IsDataAt, IsReadable};
+ghost use Rattle.zone_wire.specs.Machine.Data.{values_at};
+ghost use Rattle.zone_wire.specs.Machine.DataReading.{AwaitsStrings, IsReadyFor, PutsValue, PutsValues, next_value};
 
 use crate::cursor::Cursor;
 use crate::labels::LabelRoom;
 use crate::lent::RawRrRef;
 use zone_name::laws::are_octets;
-use zone_rdata::{Cause, Class, Field, Kind, Layout, NarrowFailing, Part, Rdata, RdataBuilder};
+use zone_rdata::{Cause, Field, Layout, NarrowFailing, Part, Rdata, RdataBuilder};
 
 /// Pushes the strings that are left, each after its length: one at least.
 #[tactic(auto, using(crate::proofs::Fields::DataReading::strings_pushed))]
@@ -82,24 +82,21 @@ fn push_fields(
 }
 
 impl<'m, 'r> RawRrRef<'m, 'r> {
-    /// Pushes the record's data: the values of its layout, or the octets as they are where there is
-    /// none (RFC 3597 3, 4).
-    #[tactic(auto, using(crate::proofs::Fields::DataReading::data_pushed))]
-    fn push_data(
-        &self,
-        class: Class,
-        kind: Kind,
-        labels: &mut LabelRoom,
-        builder: &mut RdataBuilder,
-    ) -> Result<(), NarrowFailing>
-        requires class { class ≡ self.now.at.class }
-        requires kind { kind ≡ self.now.at.kind }
-        requires new { builder.old ≡ record { class = class; kind = kind; parts = [] } }
-        ensures found { OnOk result (IsRead self.now.octets self.now.at builder.new) }
-        ensures fault { IfErr result (IfFault (λ f. data_at self.now.octets self.now.at ≡ Err f)) }
+    /// The record's data, in the memory of other data, if a zone can have its class and its type and
+    /// the type is read: the values of its layout, or the octets as they are where there is none (RFC
+    /// 3597 3, 4). The room is for the labels of names in it.
+    #[inline(always)]
+    pub(crate) fn rdata(&self, labels: &mut LabelRoom, other: Rdata) -> Result<Rdata, NarrowFailing>
+        ensures class { IfOk result (λ d. d.class ≡ self.now.at.class) }
+        ensures kind { IfOk result (λ d. d.kind ≡ self.now.at.kind) }
+        ensures readable { IfOk result (λ _. IsReadable self.now.at.kind) }
+        ensures found { IfOk result (λ d. IsDataAt self.now.octets self.now.at d.octets) }
+        ensures fault { IfErr result (IfFault (OwnFault self.now.octets self.now.at)) }
     {
         are_octets(self.fields.message);
         let fields = &self.fields;
+        let (class, kind) = self.class_and_kind()?;
+        let mut builder = RdataBuilder::reusing(other, class, kind);
         match builder.layout() {
             Some(layout) => {
                 let mut cursor = Cursor {
@@ -107,31 +104,10 @@ impl<'m, 'r> RawRrRef<'m, 'r> {
                     at: fields.start,
                     end: fields.end,
                 };
-                push_fields(layout, &mut cursor, labels, builder)
+                push_fields(layout, &mut cursor, labels, &mut builder)?;
             }
-            None => builder.push(Part::Octets(&fields.message[fields.start..fields.end])),
+            None => builder.push(Part::Octets(&fields.message[fields.start..fields.end]))?,
         }
-    }
-
-    /// The record's data, in the memory of other data. The room is for the labels of names in it.
-    #[inline(always)]
-    pub(crate) fn rdata(
-        &self,
-        class: Class,
-        kind: Kind,
-        labels: &mut LabelRoom,
-        other: Rdata,
-    ) -> Result<Rdata, NarrowFailing>
-        requires class { class ≡ self.now.at.class }
-        requires kind { kind ≡ self.now.at.kind }
-        ensures class { IfOk result (λ d. d.class ≡ class) }
-        ensures kind { IfOk result (λ d. d.kind ≡ kind) }
-        ensures found { IfOk result (λ d. IsDataAt self.now.octets self.now.at d.octets) }
-        ensures fault { IfErr result (IfFault (DataFault self.now.octets self.now.at)) }
-    {
-        are_octets(self.fields.message);
-        let mut builder = RdataBuilder::reusing(other, class, kind);
-        self.push_data(class, kind, labels, &mut builder)?;
         match builder.finish() {
             Ok(rdata) => Ok(rdata),
             Err(_) => Err(NarrowFailing::of(Cause::BadRdata)),

@@ -8,7 +8,7 @@ ghost use Rattle.zone_wire.specs.Transfer.{octets_between};
 
 use std::marker::Model;
 use std::simd::prelude::*;
-use zone_name::{Name, NameRef};
+use zone_name::NameRef;
 
 /// How many octets are copied at a time.
 const LANES: usize = 16;
@@ -75,13 +75,6 @@ impl LabelRoom {
     {
         self.octets[self.len] = 0;
         NameRef::of_wire(&self.octets[..self.len + 1])
-    }
-
-    /// The name of the labels.
-    pub(crate) fn finish(&mut self) -> Name
-        ensures { result ≡ self.old }
-    {
-        self.lend().to_name()
     }
 }
 

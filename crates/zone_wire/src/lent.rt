@@ -25,13 +25,6 @@ impl<'m, 'r> Model for RawRrRef<'m, 'r> {
 }
 
 impl<'m, 'r> RawRrRef<'m, 'r> {
-    /// The offset at which the record begins.
-    pub(crate) fn offset(&self) -> usize
-        ensures { result ≡ self.now.at.offset }
-    {
-        self.fields.offset
-    }
-
     /// The same record, which owns its owner.
     pub(crate) fn to_raw(&self) -> RawRr<'m>
         ensures { result ≡ self.now }

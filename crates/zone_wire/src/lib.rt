@@ -18,7 +18,6 @@ mod raw;
 mod record;
 mod spot;
 mod structure;
-mod ticks;
 mod transfer;
 mod transfer_source;
 

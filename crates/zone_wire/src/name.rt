@@ -6,7 +6,6 @@ ghost use Rattle.zone_wire.specs.Machine.Walk.{walk};
 
 use crate::labels::LabelRoom;
 use crate::spot::{Spot, Standing, step_at};
-use crate::ticks::Ticks;
 use zone_name::Name;
 use zone_rdata::{Cause, Fault};
 
@@ -41,7 +40,7 @@ pub fn name_at(message: &[u8], offset: usize) -> Result<Decoded, (Fault, u16)>
     let mut labels = LabelRoom::new();
     match read_name(message, offset, false, &mut labels) {
         Ok((end, steps)) => Ok(Decoded {
-            name: labels.finish(),
+            name: labels.lend().to_name(),
             end,
             steps,
         }),
@@ -70,16 +69,16 @@ pub(crate) fn read_name(
     ensures { Tells result labels.new (outcome message.now (walk message.now offset)) }
 {
     labels.clear();
-    let mut ticks = Ticks::new();
+    let mut steps = 0;
     let mut end = None;
     let mut spot = Spot::outset(offset);
     'places: loop {
-        match step_at(message, spot, known, &mut ticks) {
-            Standing::Outside => return Err((Cause::ShortMessage, ticks.count())),
-            Standing::Bad(cause) => return Err((cause, ticks.count())),
+        match step_at(message, spot, known, &mut steps) {
+            Standing::Outside => return Err((Cause::ShortMessage, steps)),
+            Standing::Bad(cause) => return Err((cause, steps)),
             Standing::Root => {
                 labels.push(message, spot.bound, spot.offset);
-                return Ok((end.unwrap_or(spot.offset + 1), ticks.count()));
+                return Ok((end.unwrap_or(spot.offset + 1), steps));
             }
             Standing::Label(size) => spot = spot.past_label(size),
             Standing::Pointer(target) => {

@@ -11,7 +11,7 @@ use crate::lent::RawRrRef;
 use crate::raw::RawRr;
 use std::alloc::Global;
 use zone_name::laws::are_octets;
-use zone_rdata::{Cause, Class, Failing, Kind, MAX_TTL, NarrowFailing, Rdata, Rr};
+use zone_rdata::{Cause, Class, Failing, Kind, MAX_TTL, Rdata, Rr};
 
 /// The types whose data may hold compressed names and isn't read: MD, MF, MB, MG, MR and MINFO (RFC
 /// 1035 3.3), and RP, AFSDB, RT, SIG, PX and NXT (RFC 3597 4).
@@ -33,13 +33,6 @@ pub(crate) fn counted_ttl(ttl: u32) -> u32
 }
 
 impl<'m, 'r> RawRrRef<'m, 'r> {
-    /// Whether the type is SOA (RFC 1035 3.3.13).
-    pub(crate) fn is_soa(&self) -> bool
-        ensures { IsTrue result ↔ (self.now.at.kind ≡ 6) }
-    {
-        self.fields.kind == 6
-    }
-
     /// The class and the type, if a zone can have them and the type is read.
     pub(crate) fn class_and_kind(&self) -> Result<(Class, Kind), Cause>
         ensures class { IfOk result (λ p. (p.0 ≡ self.now.at.class) × IsClass self.now.at.class) }
@@ -60,22 +53,6 @@ impl<'m, 'r> RawRrRef<'m, 'r> {
         }
         Ok((class, kind))
     }
-
-    /// `to_rr`, with an answer of few octets.
-    #[tactic(auto, using(crate::proofs::Records::Answering::answer_refused))]
-    pub(crate) fn read(&self, alloc: Global) -> Result<Rr, NarrowFailing>
-        ensures found { IfOk result (AnswerStates self.now.octets self.now.at) }
-        ensures only { (r : Record) → AnswerStates self.now.octets self.now.at r
-            → IfOk result (λ s. s ≡ r) × IfErr result (λ e. e ≡ Failing.Memory) }
-        ensures fault { IfErr result (IfFault (OwnFault self.now.octets self.now.at)) }
-    {
-        are_octets(self.fields.message);
-        let (class, kind) = self.class_and_kind()?;
-        let mut labels = LabelRoom::new();
-        let rdata = self.rdata(class, kind, &mut labels, Rdata::empty(alloc))?;
-        let owner = self.owner.to_name();
-        Ok(Rr::of_parts(owner, counted_ttl(self.fields.ttl), rdata))
-    }
 }
 
 impl<'m> RawRr<'m> {
@@ -89,12 +66,18 @@ impl<'m> RawRr<'m> {
     /// where the type may hold compressed names and has no layout, then the first fault of the
     /// data: `BadRdata`, or a name's `ShortMessage`, `ReservedLabel`, `BadPointer`,
     /// `TooManyPointers` or `NameTooLong`; and `Failing::Memory` for want of memory.
+    #[tactic(auto, using(crate::proofs::Records::Answering::answer_refused))]
     pub fn to_rr(&self, alloc: Global) -> Result<Rr, Failing>
         ensures found { IfOk result (AnswerStates self.now.octets self.now.at) }
         ensures only { (r : Record) → AnswerStates self.now.octets self.now.at r
             → IfOk result (λ s. s ≡ r) × IfErr result (λ e. e ≡ Failing.Memory) }
         ensures fault { IfErr result (IfFault (OwnFault self.now.octets self.now.at)) }
     {
-        Ok(self.lend().read(alloc)?)
+        are_octets(self.fields.message);
+        let rdata = self
+            .lend()
+            .rdata(&mut LabelRoom::new(), Rdata::empty(alloc))?;
+        let ttl = counted_ttl(self.fields.ttl);
+        Ok(Rr::of_parts(self.owner.copy(), ttl, rdata))
     }
 }

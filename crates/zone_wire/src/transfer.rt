@@ -1,10 +1,11 @@
 //! The messages of a zone transfer one after another, and what those before one fix (RFC 5936 2.2).
-ghost use Rattle.std.specs.Prelude.{◌≡◌, ◌+◌, ◌<◌, ◌≤◌, ◌^◌, [], length, ◌↔◌, List, None, IfErr, IsTrue, MatchOption, OnOk, ⊤, is_some, option_map, true};
+ghost use Rattle.std.specs.Prelude.{◌≡◌, ◌+◌, ◌<◌, ◌≤◌, ◌^◌, [], length, List, None, Some, IfErr, OnOk, option_map};
 ghost use Rattle.zone_rdata.specs.Cause.{fault_for};
 ghost use Rattle.zone_rdata.specs.Fault.{IfFault};
+ghost use Rattle.zone_rdata.specs.Lent.{record_of};
 ghost use Rattle.zone_rdata.specs.declared.record.Placed.{Placed};
 ghost use Rattle.zone_wire.specs.Machine.Answers.{agrees, order_fault, same_record};
-ghost use Rattle.zone_wire.specs.Machine.Transferring.{zone_held, Among, IsAfter, IsTaken, IsRefused, TakesEach, TakesHead, HeadFault, TakesMessage, ReadsNext};
+ghost use Rattle.zone_wire.specs.Machine.Transferring.{zone_held, zone_with, Among, IsAfter, IsTaken, IsRefused, TakesEach, TakesHead, HeadFault, TakesMessage, ReadsNext};
 ghost use Rattle.zone_wire.specs.Message.{QuestionAt, longest_message};
 ghost use Rattle.zone_wire.specs.Transfer.{StatedMessage};
 
@@ -15,7 +16,7 @@ use crate::message::Message;
 use crate::record::counted_ttl;
 use std::alloc::{AllocError, Global};
 use std::mem::replace;
-use zone_name::Name;
+use zone_name::{Name, NameRef};
 use zone_rdata::{Cause, NarrowFailing, PendingRecords, Place, Rdata, Rr, RrRef};
 
 /// The number of the query type AXFR, of a whole zone (RFC 5936 2.1.2).
@@ -117,11 +118,12 @@ impl Transfer {
         ensures count { self.new.messages ≤ self.old.messages + 1 }
     {
         let id = message.id();
-        if !self.has_id(id) {
+        let first = self.id.unwrap_or(id);
+        if first != id {
             return Err((Cause::IdMismatch, 0));
         }
         if let Some(question) = message.question() {
-            if question.kind != AXFR || !self.is_of_zone(&question.name, question.class) {
+            if question.kind != AXFR || !self.is_of_zone(&question.name.lend(), question.class) {
                 return Err((Cause::BadQuestion, HEADER_LEN));
             }
             self.zone = Some(FixedZone {
@@ -132,16 +134,6 @@ impl Transfer {
         self.id = Some(id);
         self.messages += 1;
         Ok(())
-    }
-
-    /// Whether an ID is that of the first message, if there is one.
-    fn has_id(&self, id: u16) -> bool
-        ensures { IsTrue result ↔ MatchOption self.now.id ⊤ (λ first. id ≡ first) }
-    {
-        match self.id {
-            Some(first) => first == id,
-            None => true,
-        }
     }
 
     /// Takes the records of a message's answers up to the first fault.
@@ -161,7 +153,7 @@ impl Transfer {
         let mut answers = message.answers();
         let (mut owner, mut labels) = (LabelRoom::new(), LabelRoom::new());
         while let Some(answer) = answers.next_in(&mut owner) {
-            let offset = answer.offset();
+            let offset = answer.fields.offset;
             match self.take_answer(&answer, &mut labels, rdata) {
                 Ok(()) => {}
                 Err(failing) => return Err((failing, offset)),
@@ -172,7 +164,7 @@ impl Transfer {
 
     /// Takes the record that an answer states. Its data takes the memory of `rdata`, and the room is
     /// for the labels of names in it.
-    #[tactic(auto, using(crate::proofs::Records::Answering::answer_not_taken))]
+    #[tactic(auto, using(crate::proofs::Records::Answering::answer_judged))]
     fn take_answer(
         &mut self,
         answer: &RawRrRef<'_, '_>,
@@ -185,92 +177,77 @@ impl Transfer {
         ensures count { self.new.messages ≡ self.old.messages }
         ensures ending { self.new.decided.ending ≡ self.old.decided.ending }
     {
-        if self.opening.is_none() || answer.is_soa() {
-            return self.take_soa(answer);
-        }
-        let (class, kind) = answer.class_and_kind()?;
         let memory = replace(rdata, Rdata::empty(self.alloc));
-        *rdata = answer.rdata(class, kind, labels, memory)?;
+        *rdata = answer.rdata(labels, memory)?;
         let ttl = counted_ttl(answer.fields.ttl);
-        // That it is a record is told before it is refused.
-        RrRef::of_parts(answer.owner.copy(), ttl, rdata.lend()).known();
-        if self.closed {
-            return Err(NarrowFailing::of(Cause::AfterClosing));
+        let rr = RrRef::of_parts(answer.owner.copy(), ttl, rdata.lend());
+        if let Some(cause) = self.order_cause(&rr) {
+            return Err(NarrowFailing::of(cause));
+        }
+        if self.opening.is_none() {
+            self.open(&rr)?;
+        } else if rr.kind.is_soa() {
+            self.closed = true;
+            return Ok(());
         }
         let owner = answer.owner.copy();
-        let place = Place::Message(self.messages, answer.offset());
+        let place = Place::Message(self.messages, answer.fields.offset);
         self.decided
             .placed
             .push_exchanged(owner, ttl, rdata, place)?;
         Ok(())
     }
 
-    /// Takes the record that an answer states, where it opens the transfer or is an SOA after that. The
-    /// opening SOA fixes the zone if no question does, and the same record again closes the transfer.
+    /// Keeps the record that opens the transfer. It fixes the zone if no question does.
     #[cold]
     #[inline(never)]
-    #[tactic(auto, using(crate::proofs::Records::Answering::order_verdicts))]
-    fn take_soa(&mut self, answer: &RawRrRef<'_, '_>) -> Result<(), NarrowFailing>
-        requires soa { is_some self.old.opening ≡ true → answer.now.at.kind ≡ 6 }
-        ensures taken { OnOk result (IsTaken answer.now self.old self.new) }
-        ensures fault { IfErr result (IfFault (IsRefused answer.now self.old)) }
-        ensures unchanged { IfErr result (IfFault (λ _. self.new ≡ self.old)) }
-        ensures count { self.new.messages ≡ self.old.messages }
-        ensures ending { self.new.decided.ending ≡ self.old.decided.ending }
+    fn open(&mut self, rr: &RrRef<'_>) -> Result<(), AllocError>
+        ensures others { self.new
+            ≡ record self.old { zone = self.new.zone; opening = self.new.opening } }
+        ensures opening { OnOk result (self.new.opening ≡ Some (record_of rr.now)) }
+        ensures zone { zone_held self.new.zone
+            ≡ zone_with (zone_held self.old.zone) (record_of rr.now) }
     {
-        let rr = answer.read(self.alloc)?;
-        if let Some(cause) = self.order_cause(&rr) {
-            return Err(NarrowFailing::of(cause));
-        }
-        if self.opening.is_some() {
-            self.closed = true;
-            return Ok(());
-        }
-        let place = Place::Message(self.messages, answer.offset());
-        self.decided.placed.push(&rr.lend(), place)?;
         if self.zone.is_none() {
             self.zone = Some(FixedZone {
-                name: rr.owner().copy(),
-                class: rr.class().number(),
+                name: rr.owner.to_name(),
+                class: rr.class.number(),
             });
         }
-        self.opening = Some(rr);
+        self.opening = Some(rr.to_rr(self.alloc)?);
         Ok(())
     }
 
     /// The fault of a record after those before it.
-    fn order_cause(&self, rr: &Rr) -> Option<Cause>
+    fn order_cause(&self, rr: &RrRef<'_>) -> Option<Cause>
         ensures { (questions : List QuestionAt) (placed : List Placed)
             → Among questions placed self.now
-            → option_map fault_for result ≡ order_fault questions placed rr.now }
+            → option_map fault_for result ≡ order_fault questions placed (record_of rr.now) }
     {
         match &self.opening {
-            None if !rr.kind().is_soa() => Some(Cause::NoOpeningSoa),
-            None if !self.is_of_zone(rr.owner(), rr.class().number()) => Some(Cause::BadQuestion),
+            None if !rr.kind.is_soa() => Some(Cause::NoOpeningSoa),
+            None if !self.is_of_zone(&rr.owner, rr.class.number()) => Some(Cause::BadQuestion),
             None => None,
             Some(_) if self.closed => Some(Cause::AfterClosing),
-            Some(opening) if rr.kind().is_soa() && !is_same(rr, opening) => Some(
-                Cause::SoaMismatch,
-            ),
+            Some(opening) if rr.kind.is_soa() && !is_same(rr, opening) => Some(Cause::SoaMismatch),
             Some(_) => None,
         }
     }
 
     /// Whether a name and a class are those of the zone, if it is fixed.
-    #[tactic(auto, using(crate::proofs::Transfers::Progress::reversed_same))]
-    fn is_of_zone(&self, name: &Name, class: u16) -> bool
+    fn is_of_zone(&self, name: &NameRef<'_>, class: u16) -> bool
         ensures { result ≡ agrees (zone_held self.now.zone) name.now class }
     {
         match &self.zone {
-            Some(zone) => *name == zone.name && class == zone.class,
+            Some(zone) => name.is_same(&zone.name.lend()) && class == zone.class,
             None => true,
         }
     }
 }
 
 /// Whether records are the same in owner, class, type, TTL and data.
-fn is_same(rr: &Rr, other: &Rr) -> bool
-    ensures { result ≡ same_record rr.now other.now }
+fn is_same(rr: &RrRef<'_>, other: &Rr) -> bool
+    ensures { result ≡ same_record (record_of rr.now) other.now }
 {
-    rr.lend().is_same(&other.lend())
+    rr.is_same(&other.lend())
 }

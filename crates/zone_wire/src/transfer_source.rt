@@ -195,12 +195,8 @@ pub fn read_transfer(alloc: Global, stream: &[u8]) -> Result<Reading, AllocError
     ensures { IfOk result (λ reading. StreamReads stream.now reading.placed.items reading.ending) }
 {
     let mut source = TransferSource::new(alloc);
-    let Ok(()) = source.feed(stream) else {
-        return Err(AllocError);
-    };
-    let Ok(()) = source.finish() else {
-        return Err(AllocError);
-    };
+    source.feed(stream).map_err(|_| AllocError)?;
+    source.finish().map_err(|_| AllocError)?;
     let TransferSource { framer, .. } = source;
     let Framer { transfer, .. } = framer;
     let Transfer { decided, .. } = transfer;

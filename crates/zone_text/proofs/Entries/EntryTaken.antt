@@ -1,5 +1,5 @@
 -- An entry read after others: what it states, or its fault.
-use Rattle.zone_text.proofs.Common.{Cuts, DecidesEntry, EndedEntries, Entry, EntryFault, Err, Fault, IfFault, IsStateAfter, Labels, Line, List, None, Some, Ok, OnOk, ParserState, PendingRecords, Place, Placed, ReadsEntry, ReadsOctets, Result, Token, [], ap, append-nil, arith, decides_fault, decides_none, decides_one, entry_of, length, refl, refused, rules, stated, states_one, subst, sym, ℕ, ◌+◌, ◌∙◌, ◌∷◌, ◌≡◌, ◌≤◌}
+use Rattle.zone_text.proofs.Common.{AppendsRecord, Cuts, DecidesEntry, EndedEntries, Entry, EntryFault, Err, Fault, IfFault, IsStateAfter, Labels, Line, List, None, Some, Ok, OnOk, Option, ParserState, PendingRecords, Place, Placed, ReadsEntry, ReadsOctets, Result, Token, [], ap, append-nil, arith, decides_fault, decides_none, decides_one, entry_of, length, refl, refused, rules, stated, states_one, subst, sym, ℕ, ◌+◌, ◌∙◌, ◌∷◌, ◌≡◌, ◌≤◌}
 use Rattle.zone_rdata.specs.declared.fault.Failing.{Failing}
 use Rattle.zone_rdata.specs.declared.fault.Failing.TheVariants as failings
 use Rattle.zone_text.proofs.Files.Left.{line_feeds}
@@ -45,3 +45,8 @@ pub refused_entry : {T E : Type 0} (result : Result T E) (origin : Labels) (befo
 refused_entry (Ok x) origin before entry place old new next failing bad refuses =
     decides_fault refuses.0 (subst (IfFault (EntryFault origin before entry)) refuses.1 bad) (ap (λ d. d.placed) refuses.2) (ap (λ d. d.ending) refuses.2)
 refused_entry (Err e) origin before entry place old new next failing bad refuses = tt
+
+-- a record that comes after others is what its entry decides
+pub appended_decides : {T E : Type 0} (result : Result T E) (origin : Labels) (before : List Entry) (entry : Entry) (place : Place) (old new : List Placed) (ending : Option (Fault × Place)) (next : ParserState) → OnOk result (AppendsRecord origin before entry place old new next) → OnOk result (DecidesEntry origin before entry place (record { placed = old; ending = ending }) (record { placed = new; ending = ending }) next)
+appended_decides (Ok x) origin before entry place old new ending next appends = decides_one appends.stated appends.states appends.left appends.appended refl
+appended_decides (Err e) origin before entry place old new ending next appends = tt

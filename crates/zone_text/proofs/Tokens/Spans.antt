@@ -1,5 +1,6 @@
 -- How far an item or a comment goes, as it is looked for from the left.
 use Rattle.std.proofs.Math.Logic.{⊎_elim}
+use Rattle.std.specs.Prelude.{slice_index}
 use Rattle.zone_text.proofs.Common.{All, AllByRecursion, AllByRecursion-append, Bool, EndsAt, IsBadEscape, IsCutOff, IsLostEscape, IsUnit, List, Token, Written, [], after_backslash, after_digit, after_two_digits, ap, append-nil, append_assoc, arith, bare, before_line_feed, both_ways, comment, drop, drop-append_seam, ends_item, eqb-true, false, flat_map-append, from_line_feed, get_or, inl, inr, is_digit, is_quote, item_of, length, length-append, length-drop, length-take, map, ne_eqb, plain, quoted, refl, sym, subst, take, take-append-drop, take-append_seam, text_of, token_text, true, written_text, ℕ, ◌++◌, ◌+◌, ◌-◌, ◌<◌, ◌==◌, ◌∙◌, ◌∷◌, ◌≡◌, ◌≢◌, ◌≤◌, ◌||◌, at_line_end, one_digit, two_digits, too_great, decimal, escaped, octet_of, cases_eq, cases_lt, cases_Bool, suc, zero, Some}
 use Rattle.zone_rdata.specs.Item as raw
 use Rattle.zone_text.proofs.Scanning.StopMarks.{first_at}
@@ -223,3 +224,26 @@ quoted_item token rest inside c first is front (quoted units) text_is token_is k
 quoted_item token rest inside c first is front (bare units) text_is token_is kind = absurd (both_ways (ends_item 34) (subst (λ d. ends_item d ≡ false) is (begins c rest (bare units) [] token_is (sym first ∙ text_is ∙ sym (append-nil (written_text units))))) refl)
 quoted_item token rest inside c first is front (comment octets) text_is token_is kind = absurd (let same : c ≡ 59 = cc in omega (arith, same, is))
 quoted_item token rest inside c first is front p text_is token_is kind = absurd kind
+
+-- ---- what shows that a backslash begins no escape, by the octets after it one by one
+
+pub lost_by_one : (after : List ℕ) → 1 ≤ length after → is_digit (slice_index after 0) ≡ false → IsBadEscape (92 ∷ after) → IsLostBy after (Some 1)
+lost_by_one [] some other bad = absurd (omega (arith, some))
+lost_by_one (c ∷ more) some other bad = no_digit_after (c ∷ more) more c refl other bad
+
+pub lost_by_two : (after : List ℕ) → 2 ≤ length after → is_digit (slice_index after 0) ≡ true → is_digit (slice_index after 1) ≡ false → IsLostBy after (Some 2)
+lost_by_two [] some digit other = absurd (omega (arith, some))
+lost_by_two (c ∷ []) some digit other = absurd (omega (arith, some))
+lost_by_two (c ∷ d ∷ more) some digit other = one_digit_after (c ∷ d ∷ more) (d ∷ more) more c d refl refl digit other
+
+pub lost_by_three : (after : List ℕ) → 3 ≤ length after → is_digit (slice_index after 0) ≡ true → is_digit (slice_index after 1) ≡ true → IsBadEscape (92 ∷ after) → IsLostBy after (Some 3)
+lost_by_three [] some digit next bad = absurd (omega (arith, some))
+lost_by_three (c ∷ []) some digit next bad = absurd (omega (arith, some))
+lost_by_three (c ∷ d ∷ []) some digit next bad = absurd (omega (arith, some))
+lost_by_three (c ∷ d ∷ e ∷ more) some digit next bad = two_digits_after (c ∷ d ∷ e ∷ more) (d ∷ e ∷ more) (e ∷ more) c d refl refl (λ none. absurd (omega (arith, ap length none))) digit next bad
+
+pub cut_off_by : (after : List ℕ) → length after < 3 → (1 ≤ length after → is_digit (slice_index after 0) ≡ true) → (2 ≤ length after → is_digit (slice_index after 1) ≡ true) → IsCutOff (92 ∷ after)
+cut_off_by [] few digit next = nothing_after [] refl
+cut_off_by (c ∷ []) few digit next = one_after (c ∷ []) [] c refl refl (digit (omega arith))
+cut_off_by (c ∷ d ∷ []) few digit next = two_after (c ∷ d ∷ []) (d ∷ []) [] c d refl refl refl (digit (omega arith)) (next (omega arith))
+cut_off_by (c ∷ d ∷ e ∷ more) few digit next = absurd (omega (arith, few))

@@ -9,15 +9,12 @@ ghost use Rattle.zone_text.specs.Entries.{Entry};
 ghost use Rattle.zone_text.specs.EntryFault.{EntryFault};
 ghost use Rattle.zone_text.specs.Inherited.{ttl_text};
 ghost use Rattle.zone_text.specs.Records.{HasHead};
-ghost use Rattle.zone_text.specs.Machine.EntryReading.{AppendsRecord, DecidesEntry, HasOwnerOrNone, IsRecordEntry};
+ghost use Rattle.zone_text.specs.Machine.EntryReading.{AppendsRecord, HasOwnerOrNone, IsRecordEntry};
 
 use super::ParserState;
 use crate::laws::entry::lower_laws;
 use crate::words::{split_bare, words_of};
-use std::alloc::AllocError;
-use zone_rdata::{
-    Cause, Class, Item, Kind, MAX_TTL, NarrowFailing, PendingRecords, Place, RecordQueue,
-};
+use zone_rdata::{Cause, Class, Item, Kind, MAX_TTL, NarrowFailing, Place, RecordQueue};
 
 /// What a record states after its owner.
 #[derive(Drop)]
@@ -32,34 +29,14 @@ struct Head<'i, 't> {
 }
 
 impl ParserState {
-    /// Reads the record of the last owner, and of the items after the owner where it is stated: the
-    /// record comes after those that were decided, or the entry's fault after the owner is decided.
-    #[inline(never)]
-    #[tactic(auto, using(crate::proofs::Entries::EntryTaken::refused_entry))]
-    pub(crate) fn read_record(
-        &mut self,
-        items: &[Item],
-        place: Place,
-        decided: &mut PendingRecords,
-    ) -> Result<(), AllocError>
-        ensures { (origin : Labels) (before : List Entry) (entry : Entry)
-            → HasOwnerOrNone origin before entry self.old (map raw items.now)
-            → OnOk result
-            (DecidesEntry origin before entry place decided.old decided.new self.new) }
-    {
-        match self.append_record(items, place, &mut decided.placed) {
-            Ok(()) => Ok(()),
-            Err(failing) => decided.refuse(failing, place),
-        }
-    }
-
     /// Appends the record of the last owner and of these items after it to others.
     ///
     /// # Errors
     ///
     /// The first fault after the owner, or that there is no owner, and `Memory`. The others are
     /// unchanged.
-    fn append_record(
+    #[inline(never)]
+    pub(super) fn append_record(
         &mut self,
         items: &[Item],
         place: Place,

@@ -1,5 +1,5 @@
 -- The data of a record is read into a builder, field after field and string after string.
-use Rattle.zone_wire.proofs.Common.{on_ok_weaker, AllByRecursion, AllByRecursion-append, AreStrings, Awaits, AwaitsStrings, BadRdata, Built, Cursor, Err, Fault, Field, FieldValue, Framed, HoldEach, Holds, IsNext, IsPushFault, IsRead, IsReadyFor, IsRecordAt, IsSized, IsString, IsWhole, List, None, Ok, OneString, Option, Pushes, PutsValue, PutsValues, RawRecord, Reads, RecordAt, Result, Some, Strings, Suits, [], and_parts, and_then, ap, append-nil, append_assoc, arith, bytes_each, common_steps, cond-false, cond-true, data_at, data_of, drop, drop_all, drop_more, ends_with_strings, eq-eqb, field_octets, fixed, flat_map, flat_map-append, framed_short, get_or, if◌then◌else◌, inl, inr, layout, length, length-append, length-take, ltb-true, map, map-append, name, next_value, octets_between, octets_of, octets_push, option_or, part_at, parts_for, put_after, refl, rules, slice_get, slice_index, some_frames, string, strings, strings_before, subst, suc, sym, table_row, u16_value, u32_value, value_at, values_at, with_length, zero, ℕ, ◌*◌, ◌++◌, ◌+◌, ◌<◌, ◌∙◌, ◌∷◌, ◌≡◌, ◌≢◌, ◌≤◌}
+use Rattle.zone_wire.proofs.Common.{AllByRecursion, AllByRecursion-append, AreStrings, Awaits, AwaitsStrings, BadRdata, Built, Cursor, Err, Fault, Field, FieldValue, Framed, HoldEach, Holds, IsNext, IsPushFault, IsRead, IsReadyFor, IsRecordAt, IsSized, IsString, IsWhole, List, None, Ok, OneString, Option, Pushes, PutsValue, PutsValues, RawRecord, Reads, RecordAt, Result, Some, Strings, Suits, [], and_parts, and_then, ap, append-nil, append_assoc, arith, bytes_each, common_steps, cond-false, cond-true, data_at, data_of, drop, drop_all, drop_more, ends_with_strings, eq-eqb, field_octets, fixed, flat_map, flat_map-append, framed_short, get_or, if◌then◌else◌, inl, inr, layout, length, length-append, length-take, ltb-true, map, map-append, name, next_value, octets_between, octets_of, octets_push, option_or, part_at, parts_for, put_after, refl, rules, slice_get, slice_index, some_frames, string, strings, strings_before, subst, suc, sym, table_row, u16_value, u32_value, value_at, values_at, with_length, zero, ℕ, ◌*◌, ◌++◌, ◌+◌, ◌<◌, ◌∙◌, ◌∷◌, ◌≡◌, ◌≢◌, ◌≤◌}
 use Rattle.zone_rdata.specs.Machine.Fronts.{AreWithLengths}
 use Rattle.zone_wire.proofs.Fields.ReadFields.{strings_read, Shown, part_bytes, strings_each, value_shows, IsRow, each_row}
 use Rattle.zone_wire.proofs.Fields.FieldReading.{between_first, between_join, part_len, sized_fails, string_sized}
@@ -267,5 +267,3 @@ module _ (raw now : RawRecord) (view : raw ≡ now) (class kind : ℕ) (same_cla
   opaque_taken fault row short bad = octets_are_taken raw.octets raw.at class kind (same_class ∙ ap (λ (v : RawRecord). v.at.class) (sym view)) (same_kind ∙ ap (λ (v : RawRecord). v.at.kind) (sym view)) old new fault row short bad
 
 pub ruleset strings_pushed = (string_missing, string_put, all_put)
-
-pub ruleset data_pushed = (laid_read, opaque_read, on_ok_weaker)

@@ -1,5 +1,5 @@
 -- An answer of a message is read as the record that it states, in the order of a transfer, or has its first fault.
-use Rattle.zone_wire.proofs.Common.{stands_stop, stands_none, stands_record, fault_answered, if_fault_passed, AgreeWith, AllByRecursion, AnswerFault, AnswerStates, AnswersGive, AreFieldsAt, AreRecordsAt, AreValuesAt, AsksFor, BadClass, Bool, Built, Bytes, ComesAfter, CompressibleType, Data, DataFault, Err, Failing, Fault, Field, FieldValue, HoldEach, IfErr, IfFault, IfOk, IsClass, IsData, IsDataAt, IsErr, IsKind, IsName, IsRead, IsReadable, IsRecord, IsRecordAt, List, MatchOption, MatchResult, Message, MetaType, None, Ok, Option, OrderFault, OwnFault, Placed, QuestionAt, RawRecord, Record, RecordAt, Result, Some, ZoneAsked, [], agrees, and_cases, and_from, and_parts, and_then, answer_record, answers_of, ap, arith, before_others, bytes_decides, bytes_each, common_steps, compressible, data_at, eq-eqb, eqb-false, eqb-true, fails, false, holds, if◌then◌else◌, inl, inr, is_meta, is_no_class, layout, length, list_any, nat_eq, ne_eqb, no_more, not, not-false, octets_between, octets_of, or_from, or_parts, order_fault, own_record, pointwise_decides, refl, rules, same_name, same_record, states, subst, sym, true, ttl_of, zone_of, ℕ, ⊤, ◌&&◌, ◌++◌, ◌<◌, ◌==◌, ◌∷◌, ◌≡◌, ◌≢◌, ◌≤◌}
+use Rattle.zone_wire.proofs.Common.{stands_stop, stands_none, stands_record, if_fault_passed, AgreeWith, AllByRecursion, AnswerFault, AnswerStates, AnswersGive, AreFieldsAt, AreRecordsAt, AreValuesAt, AsksFor, BadClass, Bool, Built, Bytes, ComesAfter, CompressibleType, Data, DataFault, Err, Failing, Fault, Field, FieldValue, HoldEach, IfErr, IfFault, IfOk, IsClass, IsData, IsDataAt, IsErr, IsKind, IsName, IsRead, IsReadable, IsRecord, IsRecordAt, List, MatchOption, MatchResult, Message, MetaType, None, Ok, Option, OrderFault, OwnFault, Placed, QuestionAt, RawRecord, Record, RecordAt, Result, Some, ZoneAsked, [], agrees, and_cases, and_from, and_parts, and_then, answer_record, answers_of, ap, arith, before_others, bytes_decides, bytes_each, common_steps, compressible, data_at, eq-eqb, eqb-false, eqb-true, fails, false, holds, if◌then◌else◌, inl, inr, is_meta, is_no_class, layout, length, list_any, nat_eq, ne_eqb, no_more, not, not-false, octets_between, octets_of, or_from, or_parts, order_fault, own_record, pointwise_decides, refl, rules, same_name, same_record, states, subst, sym, true, ttl_of, zone_of, ℕ, ⊤, ◌&&◌, ◌++◌, ◌<◌, ◌==◌, ◌∷◌, ◌≡◌, ◌≢◌, ◌≤◌}
 use Rattle.zone_wire.proofs.Messages.Sections.{not_other}
 use Rattle.zone_rdata.proofs.Octets.Layouts.{held_data, stringless_short}
 use Rattle.zone_rdata.specs.declared.fault.Failing.TheVariants as failings
@@ -186,10 +186,8 @@ pub stated : (raw now : RawRecord) → raw ≡ now → (class kind ttl : ℕ) (d
     → IsDataAt now.octets now.at d.octets → IsReadable now.at.kind → AnswerStates now.octets now.at r
 stated raw now view class kind ttl d r made fits its_class its_kind is_class is_kind is_ttl stands readable = grind arith
 
-pub ruleset order_verdicts = (order_faults, order_stands)
-
 pub ruleset answer_refused = (own_data, if_fault_passed)
 
-pub ruleset answer_not_taken = (own_data, fault_answered, if_fault_passed)
+pub ruleset answer_judged = (if_fault_passed, order_faults, order_stands)
 
 pub ruleset given_stands = (stands_record, stands_none, stands_stop)

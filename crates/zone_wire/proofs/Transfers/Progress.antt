@@ -1,5 +1,5 @@
 -- Answers and messages that are read one after another.
-use Rattle.zone_wire.proofs.Common.{AfterClosing, AgreeWith, Among, AnswerFault, AnswersGive, AskAfter, Bool, ComesAfter, Err, Failing, Fault, Gains, Hands, HasFirstId, HeadFault, IfFault, IfNoMemory, IsAfter, IsMessage, IsRefused, IsTaken, List, MatchOption, Message, MessageFault, None, Ok, Option, OrderFault, Placed, Question, QuestionAt, RawRecord, ReadsNext, Record, RecordAt, Result, Sections, Some, StatedMessage, StopsIn, Takes, TakesEach, TakesHead, TakesMessage, TakesMessageUpTo, TakesUpTo, TakesWhole, Transfer, [], ap, append-nil, append_assoc, asked, asked_in, fails, false, first_id, handed_on, holds, inl, is_some, length, length-append, map, nat_eq, no_more, placed_in, pointwise, raw_at, refl, reverse, reverse-reverse, same_name, same_record, states, subst, sym, true, zone_held, zone_with, ℕ, ⊤, ◌++◌, ◌+◌, ◌↔◌, ◌∙◌, ◌∷◌, ◌≡◌, common_steps, arith, rules, on_ok_weaker}
+use Rattle.zone_wire.proofs.Common.{AgreeWith, Among, AnswerFault, AnswersGive, AskAfter, Bool, Err, Failing, Fault, Gains, Hands, HasFirstId, HeadFault, IfFault, IfNoMemory, IsAfter, IsMessage, IsRefused, IsTaken, List, MatchOption, Message, MessageFault, None, Ok, Option, Placed, Question, QuestionAt, RawRecord, ReadsNext, Record, RecordAt, Result, Sections, Some, StatedMessage, StopsIn, Takes, TakesEach, TakesHead, TakesMessage, TakesMessageUpTo, TakesUpTo, TakesWhole, Transfer, [], ap, append-nil, append_assoc, asked, asked_in, fails, false, first_id, handed_on, holds, inl, is_some, length, length-append, map, nat_eq, no_more, placed_in, pointwise, raw_at, refl, reverse, reverse-reverse, same_name, same_record, states, subst, sym, true, unwrap_or, zone_held, zone_with, ℕ, ⊤, ◌++◌, ◌+◌, ◌↔◌, ◌∙◌, ◌∷◌, ◌≡◌, common_steps, arith, rules, on_ok_weaker}
 use Rattle.zone_rdata.specs.declared.fault.Failing.TheVariants as failings
 use Rattle.zone_rdata.specs.declared.queue.PendingRecords.{PendingRecords}
 use Rattle.zone_wire.specs.AnswerFault.{refused}
@@ -22,14 +22,6 @@ closing_gains questions placed p old new among some soa is = grind (arith, commo
 
 pub other_gains : (questions : List QuestionAt) (placed : List Placed) (rr : Record) (offset : ℕ) (old new : Transfer) → Among questions placed old → is_some old.opening ≡ true → (rr.kind ≡ 6 → ⊥) → new ≡ record old { decided = new.decided } → new.decided.placed ≡ old.decided.placed ++ here_at rr old.messages offset ∷ [] → Gains (here_at rr old.messages offset ∷ []) questions placed old new
 other_gains questions placed rr offset old new among some other new_is items = grind (arith, common_steps)
-
--- a record that is no SOA stands after the opening one, while the transfer isn't closed
-pub stands_after : (questions : List QuestionAt) (placed : List Placed) (rr : Record) (t : Transfer) → Among questions placed t → is_some t.opening ≡ true → t.closed ≡ false → (rr.kind ≡ 6 → ⊥) → ComesAfter questions placed rr
-stands_after questions placed rr t among some going other = grind arith
-
--- none does once it is
-pub closed_after : (questions : List QuestionAt) (placed : List Placed) (rr : Record) (t : Transfer) → Among questions placed t → t.closed ≡ true → OrderFault questions placed rr AfterClosing
-closed_after questions placed rr t among closed = grind (arith, fails)
 
 -- answers up to some were read, and whatever those give that are still to come, all of them give it after the records of those
 pub record SoFar (octets : List ℕ) (answers rest : List RecordAt) (questions : List QuestionAt) (placed : List Placed) (old new : Transfer) : Type 0 where
@@ -84,11 +76,21 @@ takes_all octets answers left old new none p = by p.rest (sym none ∙ p.left_is
     by (a ∷ rest) h so_far questions placed among = cc
 
 -- what the ID and the questions of a message leave
-pub has_first_id : (before : List StatedMessage) (s : Sections) (id : Option ℕ) → id ≡ first_id before → MatchOption id ⊤ (λ first. s.id ≡ first) → HasFirstId before s
-has_first_id before s id e h = grind arith
+held_first : (id : Option ℕ) (n : ℕ) → unwrap_or id n ≡ n → MatchOption id ⊤ (λ first. n ≡ first)
+held_first None n same = tt
+held_first (Some first) n same = sym same
 
-pub no_first_id : (before : List StatedMessage) (s : Sections) (id : Option ℕ) → id ≡ first_id before → (MatchOption id ⊤ (λ first. s.id ≡ first) → ⊥) → HasFirstId before s → ⊥
-no_first_id before s id e h has = grind arith
+first_held : (id : Option ℕ) (n : ℕ) → MatchOption id ⊤ (λ first. n ≡ first) → unwrap_or id n ≡ n
+first_held None n is = refl
+first_held (Some first) n is = sym is
+
+pub has_first_id : (before : List StatedMessage) (s : Sections) (id : Option ℕ) → id ≡ first_id before → unwrap_or id s.id ≡ s.id → HasFirstId before s
+has_first_id before s id e h = grind (arith, held_first id s.id h)
+
+pub no_first_id : (before : List StatedMessage) (s : Sections) (id : Option ℕ) → id ≡ first_id before → (unwrap_or id s.id ≡ s.id → ⊥) → HasFirstId before s → ⊥
+no_first_id before s id e h has =
+    let held : MatchOption id ⊤ (λ first. s.id ≡ first) → ⊥ = λ is. h (first_held id s.id is) in
+    grind arith
 
 pub takes_none : (before : List StatedMessage) (s : Sections) (old new : Transfer) (id : ℕ) → IsAfter before old → s.questions ≡ [] → id ≡ s.id → HasFirstId before s → new.messages ≡ old.messages + 1 → new.id ≡ Some id → new.zone ≡ old.zone → new.opening ≡ old.opening → new.closed ≡ old.closed → TakesHead before s old new
 takes_none before s old new id after none is same count new_id zone opening closed = grind arith
@@ -171,11 +173,9 @@ asked_one [] q e = cc
 asked_one (x ∷ []) q e = record { at = x; one = refl; same = cc }
 asked_one (x ∷ y ∷ questions) q e = cc
 
--- names that are compared from their ends
-pub reversed_same : (n m : List (List ℕ)) → pointwise (pointwise nat_eq) (reverse n) (reverse m) ≡ same_name n m
-reversed_same n m = same_from_decides _ _
-    (λ e. sym (reverse-reverse n) ∙ ap reverse (names_equal (reverse n) (reverse m) e) ∙ reverse-reverse m, λ e. names_same (reverse n) (reverse m) (ap reverse e))
-    (names_equal n m, names_same n m)
+-- a test that tells whether names are equal
+pub told_name : (b : Bool) (n m : List (List ℕ)) → (b ≡ true ↔ n ≡ m) → b ≡ same_name n m
+told_name b n m tells = same_from_decides b (same_name n m) tells (names_equal n m, names_same n m)
 
 -- a test that tells whether records are equal
 pub told_same : (b : Bool) (r s : Record) → (b ≡ true ↔ r ≡ s) → b ≡ same_record r s

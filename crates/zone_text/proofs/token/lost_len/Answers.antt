@@ -1,23 +1,18 @@
-use Rattle.zone_text.proofs.Common.{length, refl, sym, ◌∙◌}
-use Rattle.std.proofs.lemmas.List.{nil_from_length}
-use Rattle.zone_text.proofs.Entries.Begun.{none_left, some_left}
-use Rattle.zone_text.proofs.Tokens.Spans.{no_digit_after, nothing_after, one_after, one_digit_after, two_after, two_digits_after}
+use Rattle.zone_text.proofs.Common.{arith, sym, ◌∙◌}
+use Rattle.zone_text.proofs.Tokens.Spans.{cut_off_by, lost_by_one, lost_by_three, lost_by_two}
 use Rattle.zone_text.proofs.token.lost_len.Goals as goal
 
-pub returns-in_default : goal.returns-in_default
-returns-in_default c bad = nothing_after c.args.after.now (nil_from_length c.args.after.now c.in_default.ensures.cases)
+pub returns-in-len1-up : goal.returns-in-len1-up
+returns-in-len1-up c bad = lost_by_one c.args.after.now c.in-len1-up.len_at_least (sym c.is_ascii_digit.ensures.value ∙ c.if-not-is_ascii_digit.true) bad
 
-pub returns-then-not-is_digit : goal.returns-then-not-is_digit
-returns-then-not-is_digit c bad = no_digit_after c.args.after.now c.in-Some.digits.now c.in-Some.first.now c.in-Some.ensures.cases.0 (sym c.is_digit.ensures ∙ c.if-not-is_digit.true) bad
+pub returns-in-len2-up : goal.returns-in-len2-up
+returns-in-len2-up c bad = lost_by_two c.args.after.now c.in-len2-up.len_at_least (sym c.is_ascii_digit.ensures.value ∙ c.if-not-is_ascii_digit.false) (sym c.is_ascii_digit-2.ensures.value ∙ c.if-not-is_ascii_digit-2.true)
 
-pub returns-in_default-split_first : goal.returns-in_default-split_first
-returns-in_default-split_first c bad = one_after c.args.after.now c.in-Some.digits.now c.in-Some.first.now c.in-Some.ensures.cases.0 (nil_from_length c.in-Some.digits.now c.in_default-split_first.ensures.cases) (sym c.is_digit.ensures ∙ c.if-not-is_digit.false)
+pub returns-in-len3-up : goal.returns-in-len3-up
+returns-in-len3-up c bad = lost_by_three c.args.after.now c.in-len3-up.len_at_least (sym c.is_ascii_digit.ensures.value ∙ c.if-not-is_ascii_digit.false) (sym c.is_ascii_digit-2.ensures.value ∙ c.if-not-is_ascii_digit-2.false) bad
 
-pub returns-then-not-is_digit-2 : goal.returns-then-not-is_digit-2
-returns-then-not-is_digit-2 c bad = one_digit_after c.args.after.now c.in-Some.digits.now c.in-Some-split_first.rest.now c.in-Some.first.now c.in-Some-split_first.second.now c.in-Some.ensures.cases.0 c.in-Some-split_first.ensures.cases.0 (sym c.is_digit.ensures ∙ c.if-not-is_digit.false) (sym c.is_digit-2.ensures ∙ c.if-not-is_digit-2.true)
+pub returns-in_default-2 : goal.returns-in_default-2
+returns-in_default-2 c bad = cut_off_by c.args.after.now (omega (arith, c.in_default.len_below)) (λ some. sym c.is_ascii_digit.ensures.value ∙ c.if-not-is_ascii_digit.false) (λ two. absurd (omega (arith, two, c.in_default.len_below)))
 
-pub returns-then-is_empty : goal.returns-then-is_empty
-returns-then-is_empty c bad = two_after c.args.after.now c.in-Some.digits.now c.in-Some-split_first.rest.now c.in-Some.first.now c.in-Some-split_first.second.now c.in-Some.ensures.cases.0 c.in-Some-split_first.ensures.cases.0 (none_left c.in-Some-split_first.rest.now (length c.in-Some-split_first.rest.now) c.is_empty.result refl c.is_empty.ensures c.if-is_empty.true) (sym c.is_digit.ensures ∙ c.if-not-is_digit.false) (sym c.is_digit-2.ensures ∙ c.if-not-is_digit-2.false)
-
-pub returns-else-is_empty : goal.returns-else-is_empty
-returns-else-is_empty c bad = two_digits_after c.args.after.now c.in-Some.digits.now c.in-Some-split_first.rest.now c.in-Some.first.now c.in-Some-split_first.second.now c.in-Some.ensures.cases.0 c.in-Some-split_first.ensures.cases.0 (some_left c.in-Some-split_first.rest.now (length c.in-Some-split_first.rest.now) c.is_empty.result refl c.is_empty.ensures c.if-is_empty.false) (sym c.is_digit.ensures ∙ c.if-not-is_digit.false) (sym c.is_digit-2.ensures ∙ c.if-not-is_digit-2.false) bad
+pub returns-in_default-3 : goal.returns-in_default-3
+returns-in_default-3 c bad = cut_off_by c.args.after.now (omega (arith, c.in_default.len_below)) (λ some. sym c.is_ascii_digit.ensures.value ∙ c.if-not-is_ascii_digit.false) (λ two. sym c.is_ascii_digit-2.ensures.value ∙ c.if-not-is_ascii_digit-2.false)

@@ -5,7 +5,7 @@ use Rattle.zone_wire.proofs.name.name_at.Goals as goal
 pub returns-in-Ok-clause-found : goal.returns-in-Ok-clause-found
 returns-in-Ok-clause-found c =
     let is = walk_names c.args.message.now c.args.offset _ (λ i. omega (arith, c.type_inv.message i)) c.in-Ok.ensures.1 in
-    rw c.finish.ensures (c.in-Ok.ensures.0, is)
+    rw (c.to_name.ensures, c.lend.ensures) (c.in-Ok.ensures.0, is)
 
 pub returns-in-Ok-clause-within : goal.returns-in-Ok-clause-within
 returns-in-Ok-clause-within c =

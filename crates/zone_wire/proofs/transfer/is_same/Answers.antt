@@ -3,6 +3,4 @@ use Rattle.zone_wire.proofs.Transfers.Progress.{told_same}
 use Rattle.zone_wire.proofs.transfer.is_same.Goals as goal
 
 pub returns : goal.returns
-returns c =
-    told_same c.is_same.result c.args.rr.now c.args.other.now
-    (rw (sym c.lend.ensures.record, sym c.lend-2.ensures.record) c.is_same.ensures)
+returns c = told_same c.is_same.result _ c.args.other.now (rw (sym c.lend.ensures.record) c.is_same.ensures)

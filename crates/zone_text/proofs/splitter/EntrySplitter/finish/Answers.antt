@@ -12,7 +12,7 @@ pub returns-in-Some-clause-reads : goal.returns-in-Some-clause-reads
 returns-in-Some-clause-reads c origin fed given follow =
     let some = some_left c.octets.result.now (length c.octets.result.now) c.is_empty.result refl c.is_empty.ensures c.if-is_empty.false in
     let none = undecided_with c.args.self.now.ended c.args.self.now.unfinished c.requires.is (λ e. some (c.octets.ensures ∙ e)) c.args.self.now.ended.decided.ending refl in
-    end_of_break origin c.args.self.now.ended (record c.args.self.now.ended { decided = _ }) c.in-Some.fault c.args.self.now.unfinished.octets fed given (subst (EndIs c.args.self.now.unfinished.octets) c.in-Some.is (c.end_fault.ensures.open c.requires.is.state)) none refl refl follow
+    end_of_break origin c.args.self.now.ended c.refuse.new.self.ended c.in-Some.fault c.args.self.now.unfinished.octets fed given (subst (EndIs c.args.self.now.unfinished.octets) c.in-Some.is (c.end_fault.ensures.open c.requires.is.state)) none c.refuse.ensures.records c.refuse.ensures.ending follow
 
 pub end_entry-requires-clause-undecided : goal.end_entry-requires-clause-undecided
 end_entry-requires-clause-undecided c =

@@ -1,5 +1,5 @@
 use Rattle.zone_text.proofs.Common.{count_by, length, ◌+◌, ◌==◌, ◌≡◌, ◌≤◌}
-use Rattle.zone_text.proofs.feeds.counted.Given as goal
+use Rattle.zone_text.proofs.feeds.line_feeds.Given as goal
 
 abbrev pub invariant-loop-rest : goal.invariant-loop-rest
 invariant-loop-rest l = record {
