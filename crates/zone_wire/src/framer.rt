@@ -1,14 +1,15 @@
 //! Octets of a stream as they come in pieces: the frames that came whole, and the octets after them
 //! (RFC 1035 4.2.2).
-ghost use Rattle.std.specs.Prelude.{◌≡◌, ◌+◌, ◌<◌, ◌≤◌, ◌^◌, ◌++◌, [], ℕ, List, None, length, take, IfOk, IfSome, IsOk, OnOk};
+ghost use Rattle.std.specs.Prelude.{◌≡◌, ◌+◌, ◌-◌, ◌<◌, ◌≤◌, ◌^◌, ◌++◌, [], ℕ, List, None, length, take, IfOk, IfSome, IsOk, MatchOption, OnOk};
 ghost use Rattle.zone_rdata.specs.declared.record.Placed.{Placed};
 ghost use Rattle.zone_wire.specs.Machine.Feeding.{Follow, IsCut};
-ghost use Rattle.zone_wire.specs.Message.{u16_at};
-ghost use Rattle.zone_wire.specs.Stream.{StreamReads};
+ghost use Rattle.zone_wire.specs.Message.{u16_at, longest_message};
+ghost use Rattle.zone_wire.specs.Stream.{end_fault, StreamReads};
+ghost use Rattle.zone_wire.specs.Answers.{is_closed};
+ghost use Rattle.zone_wire.specs.Transfer.{frame};
 
 use crate::transfer::Transfer;
 use std::alloc::{AllocError, Global};
-use zone_name::laws::are_octets;
 use zone_rdata::{Fault, Place, Rdata};
 
 /// The octets of a frame's length.
@@ -66,8 +67,8 @@ impl Framer {
         Ok(())
     }
 
-    /// Takes octets up to the end of the unfinished frame, or of its length where that isn't whole,
-    /// all where they end before, and gives their number.
+    /// Takes octets up to the end of the unfinished frame, all where it doesn't end in them, and
+    /// gives their number.
     fn take_front(&mut self, octets: &[u8]) -> Result<usize, AllocError>
         requires cut { IsCut self.old.unfinished.items }
         requires some { 0 < length octets.now }
@@ -83,17 +84,24 @@ impl Framer {
             → Follow self.new.transfer self.new.unfinished.items
             (fed ++ take taken octets.now) given) }
     {
-        let missing = frame_len(self.unfinished.as_slice()) - self.unfinished.len();
-        let taken = missing.min(octets.len());
-        self.unfinished.extend_from_slice(&octets[..taken])?;
-        let framed = self.unfinished.as_slice();
-        are_octets(framed);
-        if framed.len() < frame_len(framed) {
-            return Ok(taken);
+        match frame_end(self.unfinished.as_slice(), octets) {
+            None => {
+                self.unfinished.extend_from_slice(octets)?;
+                Ok(octets.len())
+            }
+            Some(end) if self.unfinished.is_empty() => {
+                let message = message_of(&octets[..end]);
+                self.transfer.read(message, &mut self.rdata)?;
+                Ok(end)
+            }
+            Some(end) => {
+                self.unfinished.extend_from_slice(&octets[..end])?;
+                let message = message_of(self.unfinished.as_slice());
+                self.transfer.read(message, &mut self.rdata)?;
+                self.unfinished.clear();
+                Ok(end)
+            }
         }
-        self.transfer.read(&framed[LENGTH_LEN..], &mut self.rdata)?;
-        self.unfinished.clear();
-        Ok(taken)
     }
 
     /// Takes the end of the stream.
@@ -107,24 +115,57 @@ impl Framer {
             self.new.transfer.decided.ending }
     {
         if self.transfer.decided.ending.is_none() {
-            let place = Place::Message(self.transfer.messages + 1, 0);
-            if !self.unfinished.is_empty() {
-                self.transfer.decided.ending = Some((Fault::ShortFrame, place));
-            } else if !self.transfer.closed {
-                self.transfer.decided.ending = Some((Fault::NoClosingSoa, place));
-            }
+            self.transfer.decided.ending = self.end();
         }
         self.unfinished.clear();
     }
+
+    /// How the stream ends after frames without a fault.
+    #[tactic(auto, using(crate::proofs::Streams::Feeding::empty_of))]
+    fn end(&self) -> Option<(Fault, Place)>
+        requires { self.now.transfer.messages + 1 < 2 ^ 64 }
+        ensures { (placed : List Placed) → self.now.transfer.closed ≡ is_closed placed
+            → result
+            ≡ end_fault (self.now.transfer.messages + 1) placed self.now.unfinished.items }
+    {
+        let place = Place::Message(self.transfer.messages + 1, 0);
+        if !self.unfinished.is_empty() {
+            Some((Fault::ShortFrame, place))
+        } else if !self.transfer.closed {
+            Some((Fault::NoClosingSoa, place))
+        } else {
+            None
+        }
+    }
 }
 
-/// How many octets the frame has that octets begin; those of its length, where they don't tell it.
-fn frame_len(begun: &[u8]) -> usize
-    ensures short { length begun.now < 2 → result ≡ 2 }
-    ensures told { 2 ≤ length begun.now → result ≡ 2 + u16_at begun.now 0 }
+/// The message of a frame, after its length.
+#[tactic(auto, using(crate::proofs::Streams::Feeding::frames_taken))]
+fn message_of(framed: &[u8]) -> &[u8]
+    requires { length framed.now ≡ 2 + u16_at framed.now 0 }
+    ensures framed { framed.now ≡ frame result.now }
+    ensures short { length result.now ≤ longest_message }
 {
-    match begun {
-        [high, low, ..] => LENGTH_LEN + u16::from_be_bytes([*high, *low]) as usize,
-        _ => LENGTH_LEN,
+    &framed[LENGTH_LEN..]
+}
+
+/// Where in further octets the frame ends that cut-off octets begin; none, where it doesn't end
+/// there.
+fn frame_end(cut: &[u8], more: &[u8]) -> Option<usize>
+    requires { IsCut cut.now }
+    ensures { MatchOption result (IsCut (cut.now ++ more.now))
+        (λ end. (length cut.now + end ≡ 2 + u16_at (cut.now ++ more.now) 0) × (0 < end)
+        × (end ≤ length more.now)) }
+{
+    let (high, low) = match (cut, more) {
+        ([high, low, ..], _) => (*high, *low),
+        ([high], [low, ..]) => (*high, *low),
+        ([], [high, low, ..]) => (*high, *low),
+        _ => return None,
+    };
+    let len = LENGTH_LEN + u16::from_be_bytes([high, low]) as usize;
+    if len - cut.len() > more.len() {
+        return None;
     }
+    Some(len - cut.len())
 }

@@ -18,6 +18,7 @@ mod raw;
 mod record;
 mod spot;
 mod structure;
+mod ticks;
 mod transfer;
 mod transfer_source;
 

@@ -6,6 +6,7 @@ ghost use Rattle.zone_wire.specs.Machine.Walk.{walk};
 
 use crate::labels::LabelRoom;
 use crate::spot::{Spot, Standing, step_at};
+use crate::ticks::Ticks;
 use zone_name::Name;
 use zone_rdata::{Cause, Fault};
 
@@ -69,16 +70,16 @@ pub(crate) fn read_name(
     ensures { Tells result labels.new (outcome message.now (walk message.now offset)) }
 {
     labels.clear();
-    let mut steps = 0;
+    let mut ticks = Ticks::new();
     let mut end = None;
     let mut spot = Spot::outset(offset);
     'places: loop {
-        match step_at(message, spot, known, &mut steps) {
-            Standing::Outside => return Err((Cause::ShortMessage, steps)),
-            Standing::Bad(cause) => return Err((cause, steps)),
+        match step_at(message, spot, known, &mut ticks) {
+            Standing::Outside => return Err((Cause::ShortMessage, ticks.count())),
+            Standing::Bad(cause) => return Err((cause, ticks.count())),
             Standing::Root => {
                 labels.push(message, spot.bound, spot.offset);
-                return Ok((end.unwrap_or(spot.offset + 1), steps));
+                return Ok((end.unwrap_or(spot.offset + 1), ticks.count()));
             }
             Standing::Label(size) => spot = spot.past_label(size),
             Standing::Pointer(target) => {

@@ -1,11 +1,12 @@
 ghost use Rattle.std.specs.Prelude.{◌≡◌, ◌+◌, ◌^◌, ◌<◌, ◌≤◌, true, length, slice_index, Some};
 ghost use Rattle.zone_wire.specs.Name.{target_at};
-ghost use Rattle.zone_wire.specs.Machine.Spot.{IsSound, spot_of, standing_of, steps_at};
+ghost use Rattle.zone_wire.specs.Machine.Spot.{IsSound, spot_of, standing_of, ticks_at};
 ghost use Rattle.zone_wire.specs.Machine.Walk.{outset, past_label, past_pointer};
 ghost use Rattle.zone_wire.specs.Machine.Walk.{standing_in, label_of, pointer_of};
 
 use crate::header::HEADER_LEN;
 use crate::number::u16_at;
+use crate::ticks::Ticks;
 use zone_name::MAX_NAME_LEN;
 use zone_rdata::Cause;
 
@@ -44,20 +45,21 @@ pub(crate) enum Standing {
 /// it is looked at. Where a name is known to stand, no fault is looked for.
 #[inline(always)]
 #[tactic(auto, unfolding(crate::specs::Machine::Walk::standing_in))]
-pub(crate) fn step_at(message: &[u8], spot: Spot, known: bool, steps: &mut u16) -> Standing
+pub(crate) fn step_at(message: &[u8], spot: Spot, known: bool, ticks: &mut Ticks) -> Standing
     requires octets { spot.octets < 256 }
-    requires steps { steps.old < 256 }
+    requires ticks { ticks.old < 256 }
     requires known { known ≡ true → IsSound (standing_in message.now (spot_of spot)) }
     ensures place { standing_of result ≡ standing_in message.now (spot_of spot) }
-    ensures steps { steps.new ≡ steps.old + steps_at (standing_of result) }
+    ensures ticks { ticks.new ≡ ticks.old + ticks_at (standing_of result) }
 {
-    if !known && spot.offset >= message.len() {
-        return Standing::Outside;
-    }
-    *steps += 1;
     if known {
+        ticks.tick();
         return known_at(message, spot);
     }
+    if spot.offset >= message.len() {
+        return Standing::Outside;
+    }
+    ticks.tick();
     let first = message[spot.offset];
     // The two high bits say the form: 00 is a label's length, 11 a pointer, and the others are
     // reserved (RFC 1035 4.1.4).

@@ -9,6 +9,7 @@ ghost use Rattle.zone_wire.specs.Machine.Walk.{walk};
 use crate::header::{ANCOUNT, ARCOUNT, HEADER_LEN, NSCOUNT, QDCOUNT, RECORD_HEAD_LEN};
 use crate::number::u16_at;
 use crate::spot::{Spot, Standing, step_at};
+use crate::ticks::Ticks;
 use zone_rdata::Cause;
 
 /// The offset at which the answers of a message begin.
@@ -62,11 +63,11 @@ fn header_cause(octets: &[u8]) -> Option<Cause>
 fn walk_to_root(message: &[u8], offset: usize) -> Result<usize, Cause>
     ensures { end_or_fault result ≡ name_end_of (outcome message.now (walk message.now offset)) }
 {
-    let mut steps = 0;
+    let mut ticks = Ticks::new();
     let mut end = None;
     let mut spot = Spot::outset(offset);
     'places: loop {
-        match step_at(message, spot, false, &mut steps) {
+        match step_at(message, spot, false, &mut ticks) {
             Standing::Outside => return Err(Cause::ShortMessage),
             Standing::Bad(cause) => return Err(cause),
             Standing::Root => return Ok(end.unwrap_or(spot.offset + 1)),

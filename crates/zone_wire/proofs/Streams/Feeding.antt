@@ -1,7 +1,6 @@
 -- What is decided of a stream by one frame more, by octets that end inside a frame, and by the
 -- stream's end.
-use Rattle.zone_wire.proofs.Common.{AreRead, Bytes, Fault, Finished, Follow, Going, IfSome, IsAfter, IsCut, IsFramed, IsReadAfter, List, MatchOption, Message, None, Option, Place, Placed, ReadAfter, ReadsNext, Some, StandsForStream, StatedMessage, StopsIn, StreamDecides, StreamKept, StreamReads, TakesWhole, Transfer, [], ap, append-nil, append_assoc, arith, bytes_append, cases_lt, drop, end_fault, false, frame, handed_on, inl, inr, is_closed, length, length-append, length-drop, length-map, length-take-le, map-append, octets_in, placed_in, refl, stops, subst, sym, take, take-append-drop, true, u16_at, zone_held, ℕ, ◌++◌, ◌+◌, ◌-◌, ◌<◌, ◌∙◌, ◌∷◌, ◌≡◌, ◌≤◌, common_steps, rules}
-use Rattle.zone_rdata.specs.declared.fault.Fault.TheVariants.{NoClosingSoa, ShortFrame}
+use Rattle.zone_wire.proofs.Common.{AreRead, Bytes, Fault, Finished, Follow, Going, IfSome, IsAfter, IsCut, IsFramed, IsReadAfter, List, MatchOption, Message, None, Option, Place, Placed, ReadAfter, ReadsNext, Some, StandsForStream, StatedMessage, StopsIn, StreamDecides, StreamKept, StreamReads, TakesWhole, Transfer, [], ap, append-nil, append_assoc, arith, bytes_append, drop, end_fault, false, frame, handed_on, is_closed, length, length-append, length-drop, length-map, length-take-le, map-append, octets_in, placed_in, refl, stops, subst, sym, take, take-append-drop, u16_at, zone_held, ℕ, ◌++◌, ◌+◌, ◌-◌, ◌<◌, ◌∙◌, ◌∷◌, ◌≡◌, ◌≤◌, common_steps, rules}
 use Rattle.zone_rdata.specs.FedSource.{is_failed, is_finished, SourceState}
 use Rattle.zone_rdata.specs.declared.fed.FedStatus.{FedStatus}
 use Rattle.zone_wire.specs.declared.framer.Framer.{Framer}
@@ -11,26 +10,6 @@ use Rattle.zone_wire.proofs.Transfers.GivenMessages.{reads_all, reads_up_to}
 -- octets of the length that they begin with are a frame
 pub framed_whole : (whole : List ℕ) → Bytes whole → length whole ≡ 2 + u16_at whole 0 → whole ≡ frame (drop 2 whole)
 framed_whole whole each e = grind arith
-
--- octets that end no sooner than the frame does, and no later
-pub ends_here : (cut more : List ℕ) (len now : ℕ) → (length cut < 2 → len ≡ 2) → (2 ≤ length cut → len ≡ 2 + u16_at cut 0) → (length (cut ++ more) < 2 → now ≡ 2) → (2 ≤ length (cut ++ more) → now ≡ 2 + u16_at (cut ++ more) 0) → IsCut cut → length more ≤ len - length cut → now ≤ length (cut ++ more) → length (cut ++ more) ≡ 2 + u16_at (cut ++ more) 0
-ends_here [] more len now short told short_now told_now cut_off few past =
-    elim (cases_lt (length more) 2) [
-      | inl less ↦ absurd (omega (arith, less, short_now less, past))
-      | inr two ↦ omega (arith, two, told_now two, short (omega arith), few, past)
-    ]
-ends_here (a ∷ []) more len now short told short_now told_now cut_off few past =
-    elim (cases_lt (length (a ∷ more)) 2) [
-      | inl less ↦ absurd (omega (arith, less, short_now less, past))
-      | inr two ↦ omega (arith, two, told_now two, short (omega arith), few, past)
-    ]
-ends_here (a ∷ b ∷ cut) more len now short told short_now told_now cut_off few past =
-    omega (arith, told_now (omega arith), told (omega arith), cut_off, few, past, length-append cut more)
-
--- octets that end sooner end inside it
-pub ends_sooner : (octets : List ℕ) (now : ℕ) → (length octets < 2 → now ≡ 2) → (2 ≤ length octets → now ≡ 2 + u16_at octets 0) → length octets < now → IsCut octets
-ends_sooner octets now short told less =
-    elim (cases_lt (length octets) 2) [ inl few ↦ omega (arith, few) | inr two ↦ omega (arith, told two, less) ]
 
 framed_more : (fed front octets unfinished : List ℕ) (messages : List (List ℕ)) → IsFramed fed messages unfinished → unfinished ++ front ≡ frame octets → length octets ≤ 65535 → IsFramed (fed ++ front) (messages ++ octets ∷ []) []
 framed_more fed front octets unfinished messages is e short = frames_join fed front messages (octets ∷ []) unfinished [] is (subst (λ x. IsFramed x (octets ∷ []) []) (sym e) (frame_is octets short))
@@ -89,17 +68,6 @@ pub record FedSoFar (piece rest : List ℕ) (old new : Framer) : Type 0 where
   pub count : new.transfer.messages ≤ old.transfer.messages + length front
   pub same : IfSome old.transfer.decided.ending (λ _. new ≡ old)
   pub follow : (fed : List ℕ) (given : List Placed) → Follow old.transfer old.unfinished.items fed given → Follow new.transfer new.unfinished.items (fed ++ front) given
-
--- how a stream ends inside a frame, and after whole ones
-pub inside_ends : (number : ℕ) (placed : List Placed) (rest : List ℕ) → (rest ≡ [] → ⊥) → Some (ShortFrame, Message number 0) ≡ end_fault number placed rest
-inside_ends number placed [] some = absurd (some refl)
-inside_ends number placed (c ∷ rest) some = refl
-
-pub open_ends : (number : ℕ) (placed : List Placed) (rest : List ℕ) → rest ≡ [] → is_closed placed ≡ false → Some (NoClosingSoa, Message number 0) ≡ end_fault number placed rest
-open_ends number placed rest none going = rw (none, going) refl
-
-pub closed_ends : (number : ℕ) (placed : List Placed) (rest : List ℕ) → rest ≡ [] → is_closed placed ≡ true → None ≡ end_fault number placed rest
-closed_ends number placed rest none closed = rw (none, closed) refl
 
 -- the end of the stream after frames without a fault
 pub finishes : (t : Transfer) (unfinished fed : List ℕ) (given : List Placed) (ending : Option (Fault × Place)) → t.decided.ending ≡ None → ((placed : List Placed) → t.closed ≡ is_closed placed → ending ≡ end_fault (t.messages + 1) placed unfinished) → Follow t unfinished fed given → StreamReads fed (given ++ t.decided.placed) ending
@@ -183,3 +151,5 @@ follow_stands status count t unfinished fed given works going counted follow =
 
 pub finished_stands : (count : ℕ) (t : Transfer) (unfinished fed : List ℕ) (given : List Placed) → Bytes fed → count ≡ length fed → StreamReads fed (given ++ t.decided.placed) t.decided.ending → StandsForStream (source_of Finished count t unfinished) fed given
 finished_stands count t unfinished fed given octets counted reads = grind arith
+
+pub ruleset frames_taken = (framed_whole, rest_taken)

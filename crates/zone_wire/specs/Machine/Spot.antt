@@ -44,6 +44,6 @@ IsSound (Some (at_fault fault)) = ⊥
 IsSound (Some standing) = ⊤
 
 -- a look at a spot that lies in the message counts as one step
-abbrev pub steps_at : Option Standing → ℕ
-steps_at None = 0
-steps_at (Some standing) = 1
+abbrev pub ticks_at : Option Standing → ℕ
+ticks_at None = 0
+ticks_at (Some standing) = 1
