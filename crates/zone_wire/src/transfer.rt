@@ -162,8 +162,8 @@ impl Transfer {
         Ok(())
     }
 
-    /// Takes the record that an answer states. Its data takes the memory of `rdata`, and the room is
-    /// for the labels of names in it.
+    /// Takes the record that an answer states: the first opens the transfer, and an SOA after it closes
+    /// it. Its data takes the memory of `rdata`, and the room is for the labels of names in it.
     #[tactic(auto, using(crate::proofs::Records::Answering::answer_judged))]
     fn take_answer(
         &mut self,
