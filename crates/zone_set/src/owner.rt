@@ -13,9 +13,13 @@ use std::simd::prelude::*;
 pub(crate) fn owner_order(a: &[u8], b: &[u8]) -> Ordering
     ensures { result ≡ name_cmp (labels_of a.now) (labels_of b.now) }
 {
-    order_by_first_label(a, b)
-        .or_else(|| order_by_end(a, b))
-        .unwrap_or_else(|| order_by_labels(a, b))
+    match order_by_first_label(a, b) {
+        Some(order) => order,
+        None => match order_by_end(a, b) {
+            Some(order) => order,
+            None => order_by_labels(a, b),
+        },
+    }
 }
 
 /// How owners lie, label by label.

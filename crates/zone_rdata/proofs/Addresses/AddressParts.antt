@@ -1,5 +1,5 @@
 -- The parts of an address between its colons.
-use Rattle.zone_rdata.proofs.Common.{[], ◌≡◌, ℕ, ◌+◌, ◌<◌, ◌≤◌, ◌==◌, Bool, false, inl, inr, List, ◌∷◌, ◌++◌, length, map, refl, sym, ap, arith, append_assoc, length-append, AllByRecursion, join_with_byte, append-nil, IsIpv4Address, AddressPart, AreParts, parts_text, parts_octets, ArePartsOf, Lacks, IsCutAtFirst, IsGroupOf, IsLastPartOf, NoneFits, join_with_byte-slice_split, length-slice_split, common_steps}
+use Rattle.zone_rdata.proofs.Common.{[], ◌≡◌, ℕ, ◌+◌, ◌<◌, ◌≤◌, ◌==◌, Bool, inl, inr, List, ◌∷◌, ◌++◌, length, map, refl, sym, ap, arith, append_assoc, length-append, AllByRecursion, join_with_byte, append-nil, IsIpv4Address, AddressPart, AreParts, parts_text, parts_octets, ArePartsOf, Lacks, IsCutAtFirst, IsGroupOf, IsLastPartOf, NoneFits, join_with_byte-slice_split, length-slice_split, common_steps}
 use Rattle.zone_rdata.proofs.Addresses.Cut.{split, split_cut, split_join, split_lacks, group_lacks, group_same, last_lacks, last_same}
 
 some_numbers : (text : List ℕ) (numbers : List (List ℕ)) → length numbers ≡ 4 → text ≡ join_with_byte 46 numbers → 0 < length text
@@ -13,11 +13,6 @@ pub parts_some : (ends : Bool) (p : AddressPart) (parts : List AddressPart) → 
 parts_some ends p [] (inl is) = is.some
 parts_some ends p [] (inr are) = ipv4_some p.text p.octets are.1
 parts_some ends p (q ∷ parts) are = grind (arith, length-append)
-
--- a part before the end is a group
-pub group_alone : (text octets : List ℕ) → IsLastPartOf false text octets → IsGroupOf text octets
-group_alone text octets (inl is) = is
-group_alone text octets (inr are) = absurd cc
 
 -- ---- a text's parts are its own
 

@@ -1,5 +1,5 @@
 ghost use Rattle.hex.specs.Hex.{decode_sized, hex_digit_value, pair_value};
-ghost use Rattle.std.specs.Prelude.{◌≡◌, ◌≢◌, ◌≤◌, ◌∷◌, [], ℕ, length, IfSome, IfNone, OnSome, Ok};
+ghost use Rattle.std.specs.Prelude.{◌≡◌, ◌≢◌, ◌+◌, ◌<◌, ◌≤◌, ◌++◌, ◌∷◌, [], ℕ, length, IfSome, IfNone, OnSome, Ok};
 ghost use Rattle.zone_name.specs.Common.{NothingIs, Octets};
 ghost use Rattle.zone_rdata.specs.Address.{AreFourGroups, ArePartsOf};
 ghost use Rattle.zone_rdata.specs.Machine.AddressReading.{AppendsSome, IsGroupOf, IsLastPartOf, NoneFits, value_or_255};
@@ -81,21 +81,39 @@ fn digit_value(octet: u8) -> u8
     DIGIT_VALUES[octet as usize]
 }
 
+/// Appends octets. `None`: there is no room.
+fn push_octets(octets: &mut ArrayVec<u8, LENGTH>, added: &[u8]) -> Option<()>
+    ensures some { OnSome result (octets.new.items ≡ octets.old.items ++ added.now) }
+    ensures none { IfNone result (LENGTH < length octets.old.items + length added.now) }
+{
+    octets.try_extend_from_slice(added).ok()
+}
+
+/// Appends a group's octets. `None`: the text is no group, or there is no room.
+fn push_group(octets: &mut ArrayVec<u8, LENGTH>, text: &[u8]) -> Option<()>
+    ensures some { OnSome result
+        (AppendsSome (IsGroupOf text.now) octets.old.items octets.new.items) }
+    ensures none { IfNone result (NoneFits (IsGroupOf text.now) octets.old.items) }
+{
+    let group = group_of(text)?;
+    push_octets(octets, &group)
+}
+
 /// Appends the octets of a group or, where `ends` is so, of four decimal numbers. `None`: the text
 /// is neither, or there is no room.
-fn push_part(octets: &mut ArrayVec<u8, LENGTH>, text: &[u8], ends: bool) -> Option<()>
+fn push_last(octets: &mut ArrayVec<u8, LENGTH>, text: &[u8], ends: bool) -> Option<()>
     ensures some { OnSome result
         (AppendsSome (IsLastPartOf ends text.now) octets.old.items octets.new.items) }
     ensures none { IfNone result (NoneFits (IsLastPartOf ends text.now) octets.old.items) }
 {
     if let Some(group) = group_of(text) {
-        return octets.try_extend_from_slice(&group).ok();
+        return push_octets(octets, &group);
     }
     if !ends {
         return None;
     }
     let numbers = ipv4_octets_of(text)?;
-    octets.try_extend_from_slice(&numbers).ok()
+    push_octets(octets, &numbers)
 }
 
 /// The octets of groups parted by colons, at most sixteen; where `ends` is so, the last two groups
@@ -112,10 +130,10 @@ pub(super) fn octets_of_parts(text: &[u8], ends: bool) -> Option<ArrayVec<u8, LE
     }
     let mut rest = text;
     while let Some((group, after)) = cut_at(rest, b':') {
-        push_part(&mut octets, group, false)?;
+        push_group(&mut octets, group)?;
         rest = after;
     }
-    push_part(&mut octets, rest, ends)?;
+    push_last(&mut octets, rest, ends)?;
     Some(octets)
 }
 
