@@ -1,8 +1,8 @@
 //! How many octets are printed between quotes without an escape, seen 16 at a time.
-ghost use Rattle.std.specs.Prelude.{◌≡◌, ◌+◌, ◌≤◌, length};
+ghost use Rattle.std.specs.Prelude.{◌≡◌, ◌+◌, ◌≤◌, length, map};
 ghost use Rattle.std.specs.List.{prefix_len};
-ghost use Rattle.std.specs.Simd.Lanes.{chunk};
-ghost use Rattle.zone_rdata.specs.Machine.Unescaped.{is_unescaped};
+ghost use Rattle.std.specs.Simd.Lanes.{chunk, mask_l};
+ghost use Rattle.zone_rdata.specs.Machine.Unescaped.{is_escaped, is_unescaped};
 
 use std::simd::prelude::*;
 
@@ -31,18 +31,27 @@ pub(crate) fn unescaped_len(octets: &[u8]) -> usize
     last + unescaped_run(octets, last)
 }
 
-/// How many of the 16 octets at a place stand before the first that takes an escape.
+/// Which of the 16 octets at a place take an escape, as bits, the lowest that of the first.
 #[inline(always)]
-fn unescaped_run(octets: &[u8], at: usize) -> usize
+fn escape_bits(octets: &[u8], at: usize) -> u64
     requires { at + LANES ≤ length octets.now }
-    ensures { result ≡ prefix_len is_unescaped (chunk at LANES octets.now) }
+    ensures { result ≡ mask_l (map is_escaped (chunk at LANES octets.now)) }
 {
     let lanes = u8x16::from_slice(&octets[at..]);
     let escaped = lanes.simd_lt(u8x16::splat(b' '))
         | lanes.simd_gt(u8x16::splat(b'~'))
         | lanes.simd_eq(u8x16::splat(b'"'))
         | lanes.simd_eq(u8x16::splat(b'\\'));
-    let bits = escaped.to_bitmask();
+    escaped.to_bitmask()
+}
+
+/// How many of the 16 octets at a place stand before the first that takes an escape.
+#[inline(always)]
+fn unescaped_run(octets: &[u8], at: usize) -> usize
+    requires { at + LANES ≤ length octets.now }
+    ensures { result ≡ prefix_len is_unescaped (chunk at LANES octets.now) }
+{
+    let bits = escape_bits(octets, at);
     if bits == 0 {
         LANES
     } else {
