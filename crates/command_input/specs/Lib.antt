@@ -1,2 +1,3 @@
 pub mod Origin
 pub mod LineFault
+pub mod Order

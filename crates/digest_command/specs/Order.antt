@@ -1,11 +1,10 @@
 -- What a command line of `zonedigest` asks for (this project's own).
-use Rattle.std.specs.Prelude.{◌≡◌, Bool, if◌then◌else◌, List, [], ◌∷◌, codes, string_bytes, refl}
+use Rattle.std.specs.Prelude.{◌≡◌, Bool, if◌then◌else◌, List, [], ◌∷◌, codes, refl}
 use Rattle.clap.specs.Words.{App, Text}
-use Rattle.command_line.specs.Calls.{Calls, Commands, HasNoFinalLineFeed, argument, command_app, command_with, flag, flag_text, program_of}
-use Rattle.zone_name.specs.Common.{NothingIs}
-use Rattle.command_input.specs.Origin.{IsNoOrigin, IsOriginText, IsUndotted}
+use Rattle.command_line.specs.Calls.{Commands, argument, command_app, command_with, flag, flag_text, program_of}
+use Rattle.command_input.specs.Order.{Gives, GivesNone}
+use Rattle.command_input.specs.Origin.{IsOriginText}
 use Rattle.command_input.specs.declared.line_fault.LineFault.{LineFault}
-use Rattle.command_input.specs.declared.line_fault.LineFault.TheVariants.{BadOrigin, NoFinalDot, Clap, Memory}
 use Rattle.zone_digest.specs.declared.algorithm.Algorithm.{Algorithm}
 use Rattle.zone_digest.specs.declared.algorithm.Algorithm.TheVariants.{Sha384, Sha512}
 use Rattle.digest_command.specs.declared.notation.Notation.{Notation}
@@ -65,22 +64,15 @@ Asks (digest text sha512 generic) (Digest origin algorithm notation) =
     × (notation ≡ notation_for generic)
 Asks _ _ = ⊥
 
--- the text of the origin
-abbrev pub origin_text : Call → Text
-origin_text (verify origin) = origin
-origin_text (digest origin sha512 generic) = origin
+-- the text of its origin is such a one
+abbrev pub HasOrigin : (Text → Type 0) → Call → Type 0
+HasOrigin IsSuch (verify origin) = IsSuch origin
+HasOrigin IsSuch (digest origin sha512 generic) = IsSuch origin
 
--- The words give the order: by `clap` they are a command with the texts that ask for it.
+-- the order that the words give
 abbrev pub Orders : List Text → Order → Type 0
-Orders words order = (call : Call) × Calls commands words call × Asks call order
+Orders = Gives commands Asks
 
--- Why the words give no order: the text of the origin is bad, or lacks the dot at its end alone, or
--- by `clap` they are no command with all its arguments, and what it tells ends in no line feed.
+-- why the words give no order
 abbrev pub IsLineFault : List Text → LineFault → Type 0
-IsLineFault words BadOrigin =
-    (call : Call) × Calls commands words call × IsNoOrigin IsOriginText (origin_text call)
-IsLineFault words NoFinalDot =
-    (call : Call) × Calls commands words call × IsUndotted IsOriginText (origin_text call)
-IsLineFault words (Clap told) =
-    NothingIs (Calls commands words) × HasNoFinalLineFeed (string_bytes told)
-IsLineFault words Memory = Unit {0}
+IsLineFault = GivesNone commands HasOrigin IsOriginText

@@ -1,11 +1,10 @@
 -- What a command line asks for (this project's own).
-use Rattle.std.specs.Prelude.{ℕ, List, [], ◌∷◌, codes, string_bytes, None, refl}
+use Rattle.std.specs.Prelude.{ℕ, List, [], ◌∷◌, codes, None, refl}
 use Rattle.clap.specs.Words.{App, Text}
-use Rattle.command_line.specs.Calls.{Calls, Commands, HasNoFinalLineFeed, command_app, program_of}
-use Rattle.command_input.specs.Origin.{IsNoOrigin, IsUndotted}
+use Rattle.command_line.specs.Calls.{Commands, command_app, program_of}
+use Rattle.command_input.specs.Order.{Gives, GivesNone}
 use Rattle.command_input.specs.declared.line_fault.LineFault.{LineFault}
-use Rattle.command_input.specs.declared.line_fault.LineFault.TheVariants as line_faults
-use Rattle.zone_name.specs.Common.{NothingIs, Labels}
+use Rattle.zone_name.specs.Common.{Labels}
 use Rattle.zone_name.specs.Spelling.{SpellsCased}
 use Rattle.words_command.specs.declared.order.Order.{Order}
 use Rattle.words_command.specs.declared.order.Order.TheVariants.{Generic, Words}
@@ -52,30 +51,18 @@ Asks (generic text) (Generic origin) = IsOriginText text origin
 Asks in_words Words = Unit {0}
 Asks _ _ = ⊥
 
--- the text of an origin asks for nothing, and not for want of a dot at its end
-abbrev pub HasBadOrigin : Call → Type 0
-HasBadOrigin (generic origin) = IsNoOrigin IsOriginText origin
-HasBadOrigin in_words = ⊥
+-- the text of its origin is such a one
+abbrev pub HasOrigin : (Text → Type 0) → Call → Type 0
+HasOrigin IsSuch (generic origin) = IsSuch origin
+HasOrigin IsSuch in_words = ⊥
 
--- the text of an origin asks for nothing for want of a dot at its end
-abbrev pub HasUndottedOrigin : Call → Type 0
-HasUndottedOrigin (generic origin) = IsUndotted IsOriginText origin
-HasUndottedOrigin in_words = ⊥
-
--- The words give the order: by `clap` they are a command with the texts that ask for it.
+-- the order that the words give
 abbrev pub Orders : List Text → Order → Type 0
-Orders words order = (call : Call) × Calls commands words call × Asks call order
+Orders = Gives commands Asks
 
--- Why the words give no order: the text of an origin is bad, or lacks the dot at its end alone, or
--- by `clap` they are no command with all its arguments, and what it tells ends in no line feed.
+-- why the words give no order
 abbrev pub IsLineFault : List Text → LineFault → Type 0
-IsLineFault words line_faults.BadOrigin =
-    (call : Call) × Calls commands words call × HasBadOrigin call
-IsLineFault words line_faults.NoFinalDot =
-    (call : Call) × Calls commands words call × HasUndottedOrigin call
-IsLineFault words (line_faults.Clap told) =
-    NothingIs (Calls commands words) × HasNoFinalLineFeed (string_bytes told)
-IsLineFault words line_faults.Memory = Unit {0}
+IsLineFault = GivesNone commands HasOrigin IsOriginText
 
 -- what the user is told of a bad origin
 abbrev pub bad_origin_line : List ℕ

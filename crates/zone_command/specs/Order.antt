@@ -1,11 +1,11 @@
 -- What a command line asks for (this project's own).
 use Rattle.std.specs.Prelude.{◌≡◌, List, [], ◌∷◌, codes, string_bytes, Option, ◌⊎◌, refl}
 use Rattle.clap.specs.Words.{App, Text}
-use Rattle.command_line.specs.Calls.{Calls, Commands, HasNoFinalLineFeed, command_app, program_of}
-use Rattle.zone_name.specs.Common.{NothingIs, Labels}
-use Rattle.command_input.specs.Origin.{IsNoOrigin, IsOriginText, IsUndotted}
+use Rattle.command_line.specs.Calls.{Commands, command_app, program_of}
+use Rattle.zone_name.specs.Common.{Labels}
+use Rattle.command_input.specs.Order.{Gives, GivesNone}
+use Rattle.command_input.specs.Origin.{IsOriginText}
 use Rattle.command_input.specs.declared.line_fault.LineFault.{LineFault}
-use Rattle.command_input.specs.declared.line_fault.LineFault.TheVariants as line_faults
 use Rattle.zone_command.specs.declared.order.Source.{Source}
 use Rattle.zone_command.specs.declared.order.Order.{Order}
 use Rattle.zone_command.specs.declared.order.Order.TheVariants.{Normalise, Explain, Compare}
@@ -70,25 +70,10 @@ HasOrigin IsSuch (explain origin) = IsSuch origin
 HasOrigin IsSuch (compare origin path origin' path') =
     IsSuch origin ⊎ (((asked : Option Labels) × IsOriginText origin asked) × IsSuch origin')
 
--- the text of an origin asks for nothing, and not for want of a dot at its end
-abbrev pub HasBadOrigin : Call → Type 0
-HasBadOrigin = HasOrigin (IsNoOrigin IsOriginText)
-
--- the text of an origin asks for nothing for want of a dot at its end
-abbrev pub HasUndottedOrigin : Call → Type 0
-HasUndottedOrigin = HasOrigin (IsUndotted IsOriginText)
-
--- The words give the order: by `clap` they are a command with the texts that ask for it.
+-- the order that the words give
 abbrev pub Orders : List Text → Order → Type 0
-Orders words order = (call : Call) × Calls commands words call × Asks call order
+Orders = Gives commands Asks
 
--- Why the words give no order: the text of an origin is bad, or lacks the dot at its end alone, or
--- by `clap` they are no command with all its arguments, and what it tells ends in no line feed.
+-- why the words give no order
 abbrev pub IsLineFault : List Text → LineFault → Type 0
-IsLineFault words line_faults.BadOrigin =
-    (call : Call) × Calls commands words call × HasBadOrigin call
-IsLineFault words line_faults.NoFinalDot =
-    (call : Call) × Calls commands words call × HasUndottedOrigin call
-IsLineFault words (line_faults.Clap told) =
-    NothingIs (Calls commands words) × HasNoFinalLineFeed (string_bytes told)
-IsLineFault words line_faults.Memory = Unit {0}
+IsLineFault = GivesNone commands HasOrigin IsOriginText

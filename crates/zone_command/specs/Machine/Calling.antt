@@ -1,6 +1,7 @@
 -- What private functions of the command line answer.
 use Rattle.clap.specs.Words.{Text}
-use Rattle.zone_command.specs.Order.{Call, normalise, explain, compare, HasBadOrigin, HasUndottedOrigin}
+use Rattle.command_input.specs.Origin.{IsNoOrigin, IsOriginText, IsUndotted}
+use Rattle.zone_command.specs.Order.{Call, normalise, explain, compare, HasOrigin}
 use Rattle.zone_command.specs.declared.order.Call as code
 use Rattle.zone_command.specs.declared.order.Call.TheVariants as calls
 use Rattle.command_input.specs.declared.line_fault.LineFault.{LineFault}
@@ -21,7 +22,7 @@ HasPaths (compare origin path origin' path') = Unit {0}
 
 -- a fault that the texts of a command make: that of an origin, or want of memory for its paths
 abbrev pub IsOfCall : Call → LineFault → Type 0
-IsOfCall call BadOrigin = HasBadOrigin call
-IsOfCall call NoFinalDot = HasUndottedOrigin call
+IsOfCall call BadOrigin = HasOrigin (IsNoOrigin IsOriginText) call
+IsOfCall call NoFinalDot = HasOrigin (IsUndotted IsOriginText) call
 IsOfCall call (Clap told) = ⊥
 IsOfCall call Memory = HasPaths call
