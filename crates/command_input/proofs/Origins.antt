@@ -1,5 +1,5 @@
 -- Texts that are no origin.
-use Rattle.std.proofs.Common.{◌≡◌, Bool, true, false, nat_eq, List, ℕ, [], sym, ◌∙◌, codes}
+use Rattle.std.proofs.Common.{◌≡◌, Bool, true, false, nat_eq, List, ℕ, sym, ◌∙◌, codes}
 use Rattle.std.specs.Cmp.Lexicographic.{bytes_decides, pointwise}
 use Rattle.std.specs.Prelude.{None, Some}
 use Rattle.clap.specs.Words.{Text}

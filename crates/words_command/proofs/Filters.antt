@@ -1,7 +1,7 @@
 -- The two filters: a rewriter and a printer.
 use Rattle.words_command.proofs.Common.{◌≡◌, ℕ, List, [], ◌++◌, arith, true, false, refl, sym, subst, Result}
 use Rattle.std.proofs.Common.{append-nil}
-use Rattle.std.specs.Prelude.{Ok, Err, OnErr, OnOk, ◌+◌, ◌≤◌, ⊤}
+use Rattle.std.specs.Prelude.{Ok, Err, OnErr, OnOk, ◌≤◌, ⊤}
 use Rattle.zone_name.specs.Common.{Labels}
 use Rattle.zone_rdata.specs.FedSource.{is_finished}
 use Rattle.zone_rdata.specs.declared.fed.FedStatus.{FedStatus}

@@ -1,5 +1,5 @@
 -- A line ends with data of a further type in one way.
-use Rattle.std.proofs.Common.{◌≡◌, ◌≢◌, ℕ, ◌<◌, ◌==◌, ◌||◌, inl, inr, Bool, true, false, not, List, [], ◌∷◌, ◌++◌, length, refl, ap, arith, sym, subst, ◌∙◌, append_assoc, append-nil}
+use Rattle.std.proofs.Common.{◌≡◌, ◌≢◌, ℕ, ◌<◌, ◌==◌, ◌||◌, inl, inr, Bool, true, not, List, [], ◌∷◌, ◌++◌, length, refl, ap, arith, sym, subst, ◌∙◌, append_assoc, append-nil}
 use Rattle.hex.specs.Hex.{encode_lower}
 unfoldable use Rattle.hex.specs.Hex.{encode_with}
 use Rattle.std.proofs.lemmas.Bool.{false≢true}

@@ -1,5 +1,5 @@
 -- The lines that people are told: no line has a line feed, and what explains an input.
-use Rattle.zone_engine.proofs.Common.{ℕ, List, [], ◌∷◌, ◌++◌, arith, codes, refl, IsTrue, decimal, Fault, Place, Stop, argument_of, place_words, records_line, refusal_line, fault_row, stop_line, verdict_line, Verdict, rules, HasNoFeed, has_no_feed, high, none_append, none_decimal, none_name, none_tested, Same, Different, ◌≡◌, ◌-◌, ◌^◌, length, min, subst, Option, IfSome, Refused, IsFailedWrite, Device, Zone, InputDenotes, IfRefused, IsRefusal, WritesLine, WritesPartOfLine, IfSome_then, Input, Octets}
+use Rattle.zone_engine.proofs.Common.{ℕ, List, ◌++◌, arith, codes, refl, IsTrue, decimal, Fault, Place, Stop, argument_of, place_words, records_line, refusal_line, fault_row, stop_line, verdict_line, Verdict, rules, HasNoFeed, has_no_feed, high, none_append, none_decimal, none_name, none_tested, Same, Different, ◌≡◌, ◌-◌, ◌^◌, length, min, subst, Option, IfSome, Refused, IsFailedWrite, Device, Zone, InputDenotes, IfRefused, IsRefusal, WritesLine, WritesPartOfLine, IfSome_then, Input, Octets}
 use Rattle.zone_engine.specs.Explain.{accepted, refused, Explains, IsExplanation, StopsExplain}
 
 -- ---- the parts of the line of a refusal

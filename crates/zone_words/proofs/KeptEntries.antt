@@ -1,5 +1,5 @@
 -- What is written for an entry is cut as the entry is, and has as many line feeds.
-use Rattle.zone_words.proofs.Common.{AllByRecursion, AllByRecursion-append, AllByRecursion-back, AllByRecursion-front, AllFollow, Anew, AreOnOneLine, BecomesUnder, Bool, Cuts, Entry, IsToken, IsUnit, Labels, List, Outcome, SaysAnew, Token, TokensSay, TouchingItem, Written, [], anew, ap, arith, blank, both_ways, closing, comment, depth_after, ends_item, entry_of, escaped, false, filter, flat_map-append, generic_tokens, if◌then◌else◌, in_generic_form, is_blank, kept, length, line_feed, line_feeds, opening, plain, refl, refused, renamed, stays, subst, sum_by-append, sym, text, token_text, touching_items, true, type_token, written, written_text, zero, ℕ, ◌++◌, ◌+◌, ◌<◌, ◌==◌, ◌∙◌, ◌∷◌, ◌≡◌, ◌≢◌}
+use Rattle.zone_words.proofs.Common.{AllByRecursion, AllByRecursion-append, AllByRecursion-back, AllByRecursion-front, AllFollow, Anew, AreOnOneLine, BecomesUnder, Bool, Cuts, Entry, IsToken, IsUnit, Labels, List, Outcome, SaysAnew, Token, TokensSay, TouchingItem, Written, [], anew, ap, arith, blank, both_ways, closing, comment, depth_after, ends_item, entry_of, escaped, false, filter, flat_map-append, generic_tokens, in_generic_form, is_blank, kept, length, line_feed, line_feeds, opening, plain, refl, refused, renamed, stays, subst, sym, text, token_text, touching_items, true, type_token, written, written_text, zero, ℕ, ◌++◌, ◌+◌, ◌<◌, ◌∙◌, ◌∷◌, ◌≡◌, ◌≢◌}
 use Rattle.zone_text.proofs.Scanning.FirstEntries.{feeds_of_both}
 use Rattle.zone_text.proofs.Common.{bare, is_digit, quoted, text_of}
 use Rattle.zone_name.specs.Spelling.{decimal}

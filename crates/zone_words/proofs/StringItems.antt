@@ -1,9 +1,8 @@
 -- Items that are strings, item after item.
-use Rattle.zone_words.proofs.Common.{AppendsStated, DataItem, Fault, List, RawItem, WordsFault, [], ap, append-nil, append_assoc, arith, drop, drop_all, flat_map, from_place, get_or, inl, inr, length, length-map, map, raw_item, refl, subst, sym, with_length, ℕ, ◌++◌, ◌+◌, ◌<◌, ◌∙◌, ◌∷◌, ◌≡◌, ◌≤◌}
-use Rattle.zone_rdata.proofs.Strings.StringLaws.{string-never_both, string-once}
+use Rattle.zone_words.proofs.Common.{AppendsStated, DataItem, List, RawItem, WordsFault, [], ap, append-nil, append_assoc, arith, drop, drop_all, flat_map, from_place, get_or, inl, inr, length, length-map, map, raw_item, refl, subst, sym, with_length, ℕ, ◌++◌, ◌+◌, ◌<◌, ◌∙◌, ◌∷◌, ◌≡◌, ◌≤◌}
+use Rattle.zone_rdata.proofs.Strings.StringLaws.{string-once}
 use Rattle.zone_rdata.proofs.Items.Values.{HaveSpelt}
 use Rattle.zone_rdata.specs.Appended.{Appends}
-use Rattle.zone_rdata.specs.Fields.Strings.{FirstStringFault}
 use Rattle.zone_rdata.proofs.Octets.Each.{SpellEachString}
 use Rattle.zone_words.specs.Kinds.Strings.{FailsString, FailsStrings, StatesString, StatesStrings}
 
