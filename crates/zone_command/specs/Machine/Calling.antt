@@ -1,5 +1,4 @@
 -- What private functions of the command line answer.
-use Rattle.clap.specs.Words.{Text}
 use Rattle.command_input.specs.Origin.{IsNoOrigin, IsOriginText, IsUndotted}
 use Rattle.zone_command.specs.Order.{Call, normalise, explain, compare, HasOrigin}
 use Rattle.zone_command.specs.declared.order.Call as code
