@@ -1,7 +1,7 @@
 -- What private functions of the command line answer.
 use Rattle.command_input.specs.Origin.{IsOfOrigin, IsOriginText}
 use Rattle.command_input.specs.declared.line_fault.LineFault.{LineFault}
-use Rattle.digest_command.specs.Order.{Call, digest, verify}
+use Rattle.digest_command.specs.Order.{Call, digest, verify, HasOrigin}
 use Rattle.digest_command.specs.declared.order.Call as code
 use Rattle.digest_command.specs.declared.order.Call.TheVariants as calls
 
@@ -12,5 +12,4 @@ call_of_texts (calls.Digest origin sha512 generic) = digest origin.now sha512 ge
 
 -- a fault that the text of the origin makes
 abbrev pub IsOfCall : Call → LineFault → Type 0
-IsOfCall (verify origin) fault = IsOfOrigin IsOriginText origin fault
-IsOfCall (digest origin sha512 generic) fault = IsOfOrigin IsOriginText origin fault
+IsOfCall call fault = HasOrigin (λ text. IsOfOrigin IsOriginText text fault) call

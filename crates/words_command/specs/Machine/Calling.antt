@@ -1,7 +1,7 @@
 -- What private functions of the command line answer.
 use Rattle.command_input.specs.Origin.{IsOfOrigin}
 use Rattle.command_input.specs.declared.line_fault.LineFault.{LineFault}
-use Rattle.words_command.specs.Order.{Call, IsOriginText, generic, in_words}
+use Rattle.words_command.specs.Order.{Call, IsOriginText, generic, in_words, HasOrigin}
 use Rattle.words_command.specs.declared.order.Call as code
 use Rattle.words_command.specs.declared.order.Call.TheVariants as calls
 
@@ -12,5 +12,4 @@ texts_of calls.Words = in_words
 
 -- a fault that the texts of a command make: that of an origin
 abbrev pub IsOfCall : Call → LineFault → Type 0
-IsOfCall (generic origin) fault = IsOfOrigin IsOriginText origin fault
-IsOfCall in_words fault = ⊥
+IsOfCall call fault = HasOrigin (λ text. IsOfOrigin IsOriginText text fault) call
