@@ -86,13 +86,13 @@ def ensured(text):
 
 
 def sole_of(text, goals):
-    """What a copy of a function would have alone, by the goals that refuse it with its whole contract; `None` where nothing is saved."""
+    """What a copy of a function would have alone, by the goals that refuse it with its whole contract; `None` where nothing is saved, or
+    where what it ensures refuses it too."""
     clauses = ensured(text)
     named = [it[2] for it in map(GOAL.match, goals) if it and it[2] in clauses]
     if named:
         return Sole(clause=named[0]) if len(clauses) > 1 else None
-    others = [it for it in goals if not is_return(it)]
-    return Sole(goal=others[0]) if others and clauses else None
+    return Sole(goal=goals[0]) if goals and clauses and not any(map(is_return, goals)) else None
 
 
 def sole_at(text, sole, goal):
