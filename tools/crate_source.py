@@ -8,6 +8,7 @@ from pathlib import Path
 
 FUNCTION = re.compile(r"^(?P<indent> *)(?:pub(?:\([a-z]+\))? )?(?:const )?fn (?P<name>\w+)", re.M)
 BLOCK = re.compile(r"^(?:impl|(?:pub )?trait)\b[^{]*", re.M)
+CONSTANT = re.compile(r"^(?:pub(?:\([a-z]+\))? )?(?:const|static) (?P<name>[A-Z]\w*): .*?;\n(?=\n|\Z|[^\s\])}])", re.M | re.S)
 TYPE = re.compile(r"^(?:pub(?:\([a-z]+\))? )?(?:struct|enum) (\w+)", re.M)
 # Of an `impl`: its trait, the trait's arguments and its type.
 IMPL = re.compile(
@@ -87,6 +88,37 @@ def functions_of(crate):
                 text=source[found.start() : end],
                 is_of_trait=is_of_trait,
             )
+
+
+@dataclass(frozen=True)
+class Constant:
+    """A constant or static of a crate."""
+
+    file: str  # below the crate's folder
+    name: str
+    start: int  # where its text begins in the file, after comments and attributes
+    end: int  # where it ends, with its last line
+    text: str
+
+    def is_of(self, function, crate):
+        """Whether no code of the crate, by its folder, names it but one function."""
+        naming = re.compile(rf"\b{self.name}\b")
+        for file in source_files(crate):
+            source, name = file.read_text(), str(file.relative_to(crate))
+            for found in naming.finditer(source):
+                line = source[source.rfind("\n", 0, found.start()) + 1 : found.start()]
+                here = [(it.start, it.end) for it in (self, function) if it.file == name]
+                is_here = any(start <= found.start() < end for start, end in here)
+                if not is_here and not line.startswith(("use ", "//")):
+                    return False
+        return naming.search(function.text) is not None
+
+
+def constants_of(crate):
+    """The constants and statics of a crate outside its functions, by the folder of the crate."""
+    for file in source_files(crate):
+        for found in CONSTANT.finditer(file.read_text()):
+            yield Constant(str(file.relative_to(crate)), found["name"], found.start(), found.end(), found[0])
 
 
 def end_of(source, start, indent):

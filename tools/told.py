@@ -34,13 +34,19 @@ class Told:
         if sole:
             return any(map(sole.is_of, self.goals(path)))
         verdict = self.of(path)
-        return verdict.startswith("no proof: expected answers") or verdict.startswith("not proved; it stands on") and f"`{own(path, cycle)}" in verdict
+        if verdict.startswith("not proved; it stands on") and f"`{own(path, cycle)}" in verdict:
+            return True
+        return bool(self.open.get(path)) and not any(place == folder_of(path, cycle) for place, _ in self.misfits)
 
     def goals(self, path, cycle=None):
         """The goals of a function that are open, or the answers to them refused."""
         found = re.search(r"did not prove (`[^`]+`(?:, `[^`]+`)*)", self.of(path))
         goals = re.findall(rf"`{re.escape(own(path, cycle))}Answers\.([^`]+)`", self.of(path)) + re.findall(r"[^`, ]+", found[1] if found else "")
         return list(dict.fromkeys(goals + self.open.get(path, [])))
+
+    def of_goals(self, path):
+        """Which goals of a function are open."""
+        return f"open are {', '.join(self.goals(path)) or 'no goals'}" if path in self.verdicts else self.of(path)
 
     def left_by_no_tactic(self, path):
         """All goals of a copy that leaves each open."""
@@ -56,8 +62,7 @@ class Told:
             return True
         if sole and sole.goal and own_way:
             return True
-        folder = own(path, cycle).partition(".proofs.")[2].rstrip(".").replace(".", "/")
-        absent = {goal for place, goal in self.misfits if place == folder}
+        absent = {goal for place, goal in self.misfits if place == folder_of(path, cycle)}
         return has_control and "" not in absent and any(it not in absent if it in answered else not absent for it in goals)
 
 
@@ -65,3 +70,8 @@ def own(path, cycle=None):
     """What the names of the modules of a function's proof begin with, or of that of its cycle of calls."""
     whole = "Rattle." + path.replace("::", ".proofs.", 1).replace("::", ".") + "."
     return whole[: whole.rindex(".", 0, -1)] + f".+{cycle}." if cycle else whole
+
+
+def folder_of(path, cycle=None):
+    """The folder of a function's proof, or of that of its cycle of calls, below that of the crate's."""
+    return own(path, cycle).partition(".proofs.")[2].rstrip(".").replace(".", "/")

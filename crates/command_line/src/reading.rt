@@ -22,13 +22,8 @@ pub(crate) fn readable<'a>(alloc: Global, program: &Program) -> Result<Command<'
     for row in program.commands {
         command = command.subcommand(readable_command(alloc, row, program.notes)?)?;
     }
-    Ok(
-        command
-            .version(program.version)
-            .about(program.about)
-            .override_usage(program.usage)
-            .after_help(program.notes),
-    )
+    let command = command.version(program.version);
+    Ok(with_texts(command, program.about, program.usage, program.notes))
 }
 
 /// A command with its arguments and with these notes below its help.
@@ -45,12 +40,22 @@ fn readable_command<'a>(
     for argument in row.arguments {
         command = command.arg(readable_argument(alloc, argument))?;
     }
-    Ok(
-        command
-            .about(row.about)
-            .override_usage(row.usage)
-            .after_help(notes),
-    )
+    Ok(with_texts(command, row.about, row.usage, notes))
+}
+
+/// The command with what its help shows: what it does, how it is called, and what stands below.
+fn with_texts<'a>(
+    command: Command<'a>,
+    about: &'a str,
+    usage: &'a str,
+    notes: &'a str,
+) -> Command<'a>
+    ensures app { app_of result ≡ app_of command.entry }
+    ensures version { (fields_of result).version ≡ (fields_of command.entry).version }
+    ensures local { (fields_of result).has_globals ≡ (fields_of command.entry).has_globals }
+    ensures texts { ShowsTexts about.entry usage.entry notes.entry result }
+{
+    command.about(about).override_usage(usage).after_help(notes)
 }
 
 /// An argument.

@@ -13,6 +13,6 @@ loop-row-preserved c = one_command_more _ c.args.program.now.commands.now c.loop
 
 pub returns-clause-app : goal.returns-clause-app
 returns-clause-app c =
-    ap app_of_fields c.after_help.ensures ∙ ap app_of_fields c.override_usage.ensures ∙ ap app_of_fields c.about.ensures ∙ ap app_of_fields c.version.ensures
+    c.with_texts.ensures.app ∙ ap app_of_fields c.version-command.ensures
     ∙ ap (λ (app : App). record app { top = record app.top { has_version = true } }) c.loop-row.invariant
     ∙ ap (λ (rows : List ProgramCommand). program_of c.args.program.now.name.now (map app_of_command rows)) (take_all c.loop-row.row-index c.args.program.now.commands.now (omega (arith, c.loop-row-test.false)))

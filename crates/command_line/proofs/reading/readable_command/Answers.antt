@@ -1,6 +1,5 @@
 use Rattle.std.proofs.Common.{◌∙◌, List, ap, arith, map}
 use Rattle.std.proofs.lemmas.List.{take_all}
-use Rattle.clap.specs.Simple.{app_of_fields}
 use Rattle.command_line.specs.Calls.{command_with}
 use Rattle.command_line.specs.Program.{rule_of_argument}
 use Rattle.command_line.specs.declared.program.Argument.{Argument}
@@ -12,5 +11,5 @@ loop-argument-preserved c = one_argument_more _ c.args.row.now.arguments.now c.l
 
 pub returns-clause-app : goal.returns-clause-app
 returns-clause-app c =
-    ap app_of_fields c.after_help.ensures ∙ ap app_of_fields c.override_usage.ensures ∙ ap app_of_fields c.about.ensures ∙ c.loop-argument.invariant.is
+    c.with_texts.ensures.app ∙ c.loop-argument.invariant.is
     ∙ ap (λ (rows : List Argument). command_with c.args.row.now.word.now (map rule_of_argument rows)) (take_all c.loop-argument.argument-index c.args.row.now.arguments.now (omega (arith, c.loop-argument-test.false)))
