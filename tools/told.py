@@ -5,7 +5,10 @@ from by_hand import has_no_answer_like, misfits_in
 
 VERDICT = re.compile(r"^fn (\S+): (.*)$")
 # What stands before the verdict on a function, of a goal that is open, and maybe false at values: then no answer proves it.
-OPEN = re.compile(r"^note: .*\bis not proved that\b.* \(`(\S+)`\)(; the facts known there allow values at which this goal is false)?")
+OPEN = re.compile(
+    r"^note: .*(?:\bis not proved that\b.*|`search` found no proof) \(`(\S+)`\)"
+    r"(; the facts known there allow values at which this goal is false)?"
+)
 # What a verdict begins with where a copy of a function's own body is as good as the function.
 NOT_REFUSED = ("no holes", "depends on a hole in")
 
@@ -34,6 +37,8 @@ class Told:
         if sole:
             return any(map(sole.is_of, self.goals(path)))
         verdict = self.of(path)
+        if verdict.startswith("no proof: expected answers"):
+            return True
         if verdict.startswith("not proved; it stands on") and f"`{own(path, cycle)}" in verdict:
             return True
         return bool(self.open.get(path)) and not any(place == folder_of(path, cycle) for place, _ in self.misfits)
