@@ -402,29 +402,33 @@ fn words_that_state_no_data(rt: HostRuntime) -> Result<(), Fail> {
     check_lines::<Refusing>(rt.alloc(), WRONG_WORDS)
 }
 
+/// That these octets are written, and that the file has ended or not.
+fn check_written(rewriter: &Rewriter, written: &[u8], is_finished: bool) -> Result<(), Fail> {
+    check_octets("what is written", rewriter.written(), written)?;
+    check(
+        rewriter.is_finished() == is_finished,
+        "whether the file has ended",
+    )
+}
+
+/// That of so many octets that were fed these wait.
+fn check_waiting(rewriter: &Rewriter, fed: u64, waiting: &[u8]) -> Result<(), Fail> {
+    check_octets("what waits", rewriter.undecided(), waiting)?;
+    check_same("octets that were fed", rewriter.fed(), fed)
+}
+
 /// What is written of a file in two pieces is taken after the first: the entry that a line feed has
 /// ended, while the next one waits.
 #[test]
 fn what_is_written_is_taken(rt: HostRuntime) -> Result<(), Fail> {
     let mut rewriter = Rewriter::new(rt.alloc(), &CasedName::root());
     rewriter.feed(b"a DS 1 8 2 00\nb DS 1 ")?;
-    check_octets(
-        "the first entry",
-        rewriter.written(),
-        b"a TYPE43 \\# 5 0001080200\n",
-    )?;
-    check_octets("what waits", rewriter.undecided(), b"b DS 1 ")?;
-    check_same("octets that were fed", rewriter.fed(), 21)?;
-    check(!rewriter.is_finished(), "the file hasn't ended")?;
+    check_written(&rewriter, b"a TYPE43 \\# 5 0001080200\n", false)?;
+    check_waiting(&rewriter, 21, b"b DS 1 ")?;
     rewriter.clear_written();
     rewriter.feed(b"8 2 00")?;
     rewriter.finish()?;
-    check_octets(
-        "the second entry",
-        rewriter.written(),
-        b"b TYPE43 \\# 5 0001080200",
-    )?;
-    check(rewriter.is_finished(), "the file has ended")
+    check_written(&rewriter, b"b TYPE43 \\# 5 0001080200", true)
 }
 
 /// A rewriter that begins anew writes another file, under the origin of that one.
@@ -435,11 +439,7 @@ fn a_rewriter_begins_anew(rt: HostRuntime) -> Result<(), Fail> {
     rewriter.restart(&CasedName::from_text(b"y.", None)?);
     rewriter.feed(b"a RP h .\n")?;
     rewriter.finish()?;
-    check_octets(
-        "the other file",
-        rewriter.written(),
-        b"a TYPE17 \\# 6 016801790000\n",
-    )
+    check_written(&rewriter, b"a TYPE17 \\# 6 016801790000\n", true)
 }
 
 /// An entry by itself, of a rewriter that was fed another file before.
@@ -456,13 +456,8 @@ fn an_entry_is_a_whole_file(rt: HostRuntime) -> Result<(), Fail> {
     let mut rewriter = Rewriter::new(rt.alloc(), &CasedName::root());
     rewriter.feed(b"$ORIGIN z.\na RP h .\nb RP")?;
     rewriter.rewrite_entry(&CasedName::from_text(b"y.", None)?, entry, &items)?;
-    check_octets(
-        "the entry",
-        rewriter.written(),
-        b"a TYPE17 \\# 6 016801790000\n",
-    )?;
-    check_same("octets of the file", rewriter.fed(), 9)?;
-    check(rewriter.is_finished(), "the file has ended")
+    check_waiting(&rewriter, 9, b"")?;
+    check_written(&rewriter, b"a TYPE17 \\# 6 016801790000\n", true)
 }
 
 /// Words of numbers, as RFC 4398 2.1 and the registry of RFC 6895 3.1 have them.
