@@ -37,9 +37,8 @@ class Told:
         if sole:
             return any(map(sole.is_of, self.goals(path)))
         verdict = self.of(path)
-        if verdict.startswith("no proof: expected answers"):
-            return True
-        if verdict.startswith("not proved; it stands on") and f"`{own(path, cycle)}" in verdict:
+        is_on_own = verdict.startswith("not proved; it stands on") and f"`{own(path, cycle)}" in verdict
+        if is_on_own or verdict.startswith("no proof: expected answers"):
             return True
         return bool(self.open.get(path)) and not any(place == folder_of(path, cycle) for place, _ in self.misfits)
 
