@@ -5,9 +5,7 @@ use Rattle.std.specs.Prelude.{None, Some}
 use Rattle.clap.specs.Words.{Text}
 use Rattle.zone_name.specs.Common.{NothingIs}
 use Rattle.zone_name.specs.Spelling.{Spells}
-use Rattle.command_input.specs.Origin.{IsOfOrigin, IsOriginText, IsUnlessOrigin}
-use Rattle.command_input.specs.declared.line_fault.LineFault.{LineFault}
-use Rattle.command_input.specs.declared.line_fault.LineFault.TheVariants.{BadOrigin, NoFinalDot, Clap, Memory}
+use Rattle.command_input.specs.Origin.{IsOriginText}
 
 pub not_same : (text word : Text) (b : Bool) → b ≡ pointwise nat_eq text word → b ≡ false → text ≡ word → ⊥
 not_same text word b test fails is = let yes : pointwise nat_eq text word ≡ true = (bytes_decides text word).1 is in let no : true ≡ false = sym yes ∙ sym test ∙ fails in cc
@@ -16,10 +14,3 @@ not_same text word b test fails is = let yes : pointwise nat_eq text word ≡ tr
 pub no_origin : (text : Text) → (text ≡ codes "transfer" → ⊥) → ((name : List (List ℕ)) → Spells None text name → ⊥) → NothingIs (IsOriginText text)
 no_origin text other spells None is = other is
 no_origin text other spells (Some name) is = spells name is
-
--- a text that is no origin makes the fault that it makes unless it is one
-pub of_origin : {Origin : Type 0} (Is : Text → Origin → Type 0) (text : Text) (fault : LineFault) → NothingIs (Is text) → IsUnlessOrigin text fault → IsOfOrigin Is text fault
-of_origin Is text BadOrigin none other = record { none = none; not_undotted = λ undotted. other undotted.is_name }
-of_origin Is text NoFinalDot none is_name = record { none = none; is_name = is_name }
-of_origin Is text (Clap told) none is = is
-of_origin Is text Memory none is = is

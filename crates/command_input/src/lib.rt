@@ -7,6 +7,6 @@ mod origin;
 mod telling;
 
 pub use line_fault::LineFault;
-pub use origin::{origin_fault, origin_of};
+pub use origin::origin_of;
 pub use telling::{refuse, refuse_saying, report};
 pub use zone_engine::status;

@@ -1,18 +1,19 @@
 //! Why a command line is no order.
-ghost use Rattle.std.specs.Prelude.{◌≡◌, ◌++◌};
-ghost use Rattle.command_input.specs.LineFault.{line_status, line_text};
+ghost use Rattle.std.specs.Prelude.{◌≡◌};
+ghost use Rattle.command_input.specs.LineFault.{bad_origin_line, line_status, line_text};
 
 use command_line::NoCall;
 use std::alloc::AllocError;
 use zone_engine::{OUT_OF_MEMORY, status};
+
+/// What a user is told of a bad origin where a transfer has a word in its place.
+const BAD_ORIGIN: &str = "F46 BadOrigin: an origin is an absolute name or the word transfer";
 
 /// Why a command line is no order.
 #[derive(Debug, Drop)]
 pub enum LineFault {
     /// An origin is none that the program takes.
     BadOrigin,
-    /// An origin is a name that lacks the dot at its end alone.
-    NoFinalDot,
     /// What `clap` tells a user in place of matches, help included.
     Clap(String),
     /// Memory was refused.
@@ -43,16 +44,23 @@ impl From<NoCall> for LineFault {
 }
 
 impl LineFault {
-    /// The text for the user, in two parts and without a line feed at its end. `bad_origin` tells
-    /// of a bad origin.
-    pub(crate) fn text<'t>(&'t self, bad_origin: &'t str) -> (&'t str, &'t str)
-        ensures { result.0.now ++ result.1.now ≡ line_text bad_origin.now self.now }
+    /// The text for the user, without a line feed at its end. Of a bad origin it is
+    /// `F46 BadOrigin: an origin is an absolute name or the word transfer`.
+    pub fn text(&self) -> &str
+        ensures { result.now ≡ line_text bad_origin_line self.now }
+    {
+        self.text_saying(BAD_ORIGIN)
+    }
+
+    /// The text for the user, as [`text`](LineFault::text) gives it, where `bad_origin` is that of a
+    /// bad origin.
+    pub(crate) fn text_saying<'t>(&'t self, bad_origin: &'t str) -> &'t str
+        ensures { result.now ≡ line_text bad_origin.now self.now }
     {
         match self {
-            LineFault::BadOrigin => (bad_origin, ""),
-            LineFault::NoFinalDot => (bad_origin, "; this one lacks the dot at its end"),
-            LineFault::Clap(text) => (text.as_str(), ""),
-            LineFault::Memory => (OUT_OF_MEMORY, ""),
+            LineFault::BadOrigin => bad_origin,
+            LineFault::Clap(text) => text.as_str(),
+            LineFault::Memory => OUT_OF_MEMORY,
         }
     }
 
@@ -61,9 +69,7 @@ impl LineFault {
         ensures { result ≡ line_status self.now }
     {
         match self {
-            LineFault::BadOrigin | LineFault::NoFinalDot | LineFault::Clap(_) => {
-                status::BAD_COMMAND_LINE
-            }
+            LineFault::BadOrigin | LineFault::Clap(_) => status::BAD_COMMAND_LINE,
             LineFault::Memory => status::FAILED,
         }
     }

@@ -8,9 +8,6 @@ use zone_engine::{OUT_OF_MEMORY, READ_FAILED, WRITE_FAILED, status, tell, tell_r
 use zone_print::OctetWriter;
 use zone_rdata::Stop;
 
-/// What is told of a bad origin where a transfer has a word in its place.
-const BAD_ORIGIN: &str = "F46 BadOrigin: an origin is an absolute name or the word transfer";
-
 /// Tells why a run stopped, after these words, and answers its status: 4 where that could not be
 /// told. It takes no memory.
 pub fn report<E: OctetWriter>(words: &str, stop: &Stop, errors: &mut E) -> u8
@@ -31,7 +28,7 @@ pub fn refuse<E: OctetWriter>(fault: &LineFault, errors: &mut E) -> u8
     ensures { TellsLine (line_text bad_origin_line fault.now) (line_status fault.now)
         (E.state errors.old) (E.state errors.new) result }
 {
-    refuse_saying(BAD_ORIGIN, fault, errors)
+    tell(errors, "", fault.text(), fault.status())
 }
 
 /// Tells why a command line is no order, as [`refuse`] does, where these words tell of a bad origin.
@@ -39,6 +36,5 @@ pub fn refuse_saying<E: OctetWriter>(bad_origin: &str, fault: &LineFault, errors
     ensures { TellsLine (line_text bad_origin.now fault.now) (line_status fault.now)
         (E.state errors.old) (E.state errors.new) result }
 {
-    let (front, end) = fault.text(bad_origin);
-    tell(errors, front, end, fault.status())
+    tell(errors, "", fault.text_saying(bad_origin), fault.status())
 }

@@ -8,11 +8,12 @@ use Rattle.zone_name.specs.Common.{Labels}
 use Rattle.zone_words.specs.Entry.{IsRewriting}
 use Rattle.zone_words.specs.Refusal.{AreInShort}
 use Rattle.zone_words.specs.Rewriting.{Refused}
+use Rattle.zone_words.specs.Stopped.{stopped_line}
 use Rattle.zone_words.specs.declared.refusal.Refusal.{Refusal}
 use Rattle.zone_words.specs.declared.refusal.Refusals.{Refusals}
 use Rattle.words_print.specs.Shown.{IsShownText}
 use Rattle.words_command.specs.Filtering.{IsStopped, IsWrittenWhole}
-use Rattle.words_command.specs.Run.{CarriesOut, Stops, TellsRefused, failure_line, rewriting, showing, stopped_line}
+use Rattle.words_command.specs.Run.{CarriesOut, Stops, TellsRefused, failure_line, no_line, rewriting, showing}
 use Rattle.words_command.specs.Run as runs
 use Rattle.words_command.specs.Telling.{refusals_line}
 use Rattle.words_command.specs.declared.failure.Failure.{Failure}
@@ -51,5 +52,5 @@ pub none_told : (order : Order) (input input' output output' : Device) → order
     → (told : List Refused) × AreInShort told (record { first = None; count = 0 }) × CarriesOut order input input' output output' told
 none_told order input input' output output' is h = ([], record { first = refl; count = refl }, rw is (refl, h))
 
-pub shown_stops : (order : Order) (input input' output output' : Device) (failure : Failure) → order ≡ Words → IsStopped showing [] input input' output output' failure → Stops order input input' output output' failure
+pub shown_stops : (order : Order) (input input' output output' : Device) (failure : Failure) → order ≡ Words → IsStopped showing no_line input input' output output' failure → Stops order input input' output output' failure
 shown_stops order input input' output output' failure is h = rw is h

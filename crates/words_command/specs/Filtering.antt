@@ -53,17 +53,17 @@ pub data IsWrittenFor (filter : Filtering) (octets text : List ℕ) : Type 0 whe
   all : filter.All octets text → IsWrittenFor filter octets text
 
 -- What is left where it failed, with the octets that were read. Where reading ended before the end
--- of the input, what is written for them so far was written, and a last line. Where memory was
--- refused, it was for a beginning of the octets. A failed writer took a proper prefix of what was
--- being written, and gets no last line.
-pub data IsStopped (filter : Filtering) (last : List ℕ) (input input' output output' : Device)
-    : Failure → Type 0 where
+-- of the input, what is written for them so far was written, and the last line that such a text
+-- gets. Where memory was refused, it was for a beginning of the octets. A failed writer took a
+-- proper prefix of what was being written, and gets no last line.
+pub data IsStopped (filter : Filtering) (last : List ℕ → List ℕ)
+    (input input' output output' : Device) : Failure → Type 0 where
   unread : (octets text : List ℕ) → Consumes input.octets input'.octets octets
-      → filter.SoFar octets text → EndsWith last text output output'
+      → filter.SoFar octets text → EndsWith (last text) text output output'
       → EndsReading octets input input'
       → IsStopped filter last input input' output output' Read
   out_of_memory : (octets text : List ℕ) → Consumes input.octets input'.octets octets
-      → IsSoFarInPart filter.SoFar octets text → EndsWith last text output output'
+      → IsSoFarInPart filter.SoFar octets text → EndsWith (last text) text output output'
       → WorksOn input input' → IsStopped filter last input input' output output' Memory
   unwritten : (octets text : List ℕ) → Consumes input.octets input'.octets octets
       → IsWrittenFor filter octets text → AppendsPart output.octets output'.octets text

@@ -1,5 +1,5 @@
 -- What a run of an order reads, writes and answers (this project's own).
-use Rattle.std.specs.Prelude.{◌≡◌, ℕ, List, [], ◌∷◌, ◌++◌, codes, Some, None}
+use Rattle.std.specs.Prelude.{◌≡◌, ℕ, List, [], ◌++◌, Some, None}
 use Rattle.zone_name.specs.Common.{Labels}
 use Rattle.zone_rdata.specs.declared.fault.Stop.TheVariants as stops
 use Rattle.zone_print.specs.Device.{Device, IsLeft}
@@ -8,6 +8,7 @@ use Rattle.zone_engine.specs.Telling.{stop_line, TellsLine}
 use Rattle.zone_words.specs.Entry.{BecomesUnder, IsRewriting}
 use Rattle.zone_words.specs.Rewriting.{IsRewrittenSoFar, Refused}
 use Rattle.zone_words.specs.Refusal.{AreInShort}
+use Rattle.zone_words.specs.Stopped.{stopped_line}
 use Rattle.zone_words.specs.declared.refusal.Refusal.{Refusal}
 use Rattle.zone_words.specs.declared.refusal.Refusals.{Refusals}
 use Rattle.words_print.specs.Shown.{AreShown, IsShownText}
@@ -49,11 +50,6 @@ HasRewriting origin octets text = (told : List Refused) × IsRewriting origin oc
 abbrev pub rewriting : Labels → Filtering
 rewriting origin = record { SoFar = IsFileSoFar origin; All = HasRewriting origin }
 
--- The last line of a rewriting that isn't whole: a directive that no reader of master files knows
--- (RFC 1035 5.1).
-abbrev pub stopped_line : List ℕ
-stopped_line = codes "$STOPPED" ++ 10 ∷ []
-
 -- ---- a text in words
 
 -- what is shown for the lines of octets that are ended
@@ -63,6 +59,10 @@ pub record IsShownSoFar (octets text : List ℕ) : Type 0 where
   pub whole : octets ≡ done ++ waiting
   pub unended : HasNoFeed waiting
   pub shown : AreShown done text
+
+-- a text in words that isn't whole has no last line to say so
+abbrev pub no_line : List ℕ → List ℕ
+no_line text = []
 
 -- a text is shown in words
 abbrev pub showing : Filtering
@@ -88,12 +88,12 @@ CarriesOut (Generic origin) input input' output output' told =
 CarriesOut Words input input' output output' told =
     (told ≡ []) × IsWrittenWhole IsShownText input input' output output'
 
--- What an order leaves that failed. A text in words that isn't whole has no last line to say so.
+-- what an order leaves that failed
 abbrev pub Stops : Order → Device → Device → Device → Device → Failure → Type 0
 Stops (Generic origin) input input' output output' failure =
     IsStopped (rewriting origin) stopped_line input input' output output' failure
 Stops Words input input' output output' failure =
-    IsStopped showing [] input input' output output' failure
+    IsStopped showing no_line input input' output output' failure
 
 -- What a run of an order leaves, with its exit status: it is carried out, and the entries that
 -- state no data are told; or it failed, and the line on that is told.

@@ -1,14 +1,16 @@
 //! What an order does over a reader and a writer.
-ghost use Rattle.std.specs.Prelude.{◌≡◌, [], List, IfErr, IfOk, OnOk};
+ghost use Rattle.std.specs.Prelude.{◌≡◌, List, IfErr, IfOk, OnOk};
 ghost use Rattle.zone_words.specs.Entry.{IsRewriting};
 ghost use Rattle.zone_words.specs.Refusal.{AreInShort};
 ghost use Rattle.zone_words.specs.Rewriting.{Refused};
+ghost use Rattle.zone_words.specs.Stopped.{stopped_line};
 ghost use Rattle.words_print.specs.Shown.{IsShownText};
 ghost use Rattle.words_command.specs.Filtering.{IsStopped, IsWrittenWhole};
-ghost use Rattle.words_command.specs.Run.{CarriesOut, Stops, rewriting, showing, stopped_line};
+ghost use Rattle.words_command.specs.Run.{CarriesOut, Stops, no_line, rewriting, showing};
 
 use crate::failure::Failure;
 use crate::filtering::filter_all;
+use crate::last_line::LastLine;
 use crate::order::Order;
 use std::alloc::Global;
 use words_print::WordsPrinter;
@@ -16,6 +18,12 @@ use zone_engine::OctetReader;
 use zone_name::CasedName;
 use zone_print::OctetWriter;
 use zone_words::{Refusals, Rewriter};
+
+/// The last line of a rewriting that isn't whole.
+const STOPPED: LastLine = LastLine {
+    inside_line: b"\n$STOPPED\n",
+    after_line: b"$STOPPED\n",
+};
 
 /// Carries an order out, and answers what there is to tell.
 ///
@@ -52,8 +60,9 @@ pub(crate) fn carry_out<R: OctetReader, W: OctetWriter>(
 /// # Errors
 ///
 /// `Read` where the reader failed or gives more than 2^63 octets, and `Memory`: what is written for
-/// the whole entries before is written, and a last line `$STOPPED`, as far as the writer takes it.
-/// `Write` where the writer failed before that.
+/// the whole entries before is written, and a last line `$STOPPED`, as far as the writer takes it. A
+/// line feed goes before it where the text broke inside a line. `Write` where the writer failed
+/// before that.
 fn rewrite<R: OctetReader, W: OctetWriter>(
     alloc: Global,
     origin: &CasedName,
@@ -67,7 +76,7 @@ fn rewrite<R: OctetReader, W: OctetWriter>(
         (R.state input.old) (R.state input.new) (W.state output.old) (W.state output.new)) }
 {
     let mut rewriter = Rewriter::new(alloc, origin);
-    filter_all(alloc, &mut rewriter, b"$STOPPED\n", input, output)?;
+    filter_all(alloc, &mut rewriter, STOPPED, input, output)?;
     Ok(rewriter.refusals())
 }
 
@@ -86,10 +95,10 @@ fn show<R: OctetReader, W: OctetWriter>(
 ) -> Result<(), Failure>
     ensures done { OnOk result (IsWrittenWhole IsShownText (R.state input.old)
         (R.state input.new) (W.state output.old) (W.state output.new)) }
-    ensures stopped { IfErr result (IsStopped showing [] (R.state input.old)
+    ensures stopped { IfErr result (IsStopped showing no_line (R.state input.old)
         (R.state input.new) (W.state output.old) (W.state output.new)) }
 {
     let mut printer = WordsPrinter::new(alloc);
-    filter_all(alloc, &mut printer, b"", input, output)?;
+    filter_all(alloc, &mut printer, LastLine::NONE, input, output)?;
     Ok(())
 }

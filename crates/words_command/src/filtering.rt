@@ -1,13 +1,15 @@
 //! What a reader gives, passed through a filter and written as it comes.
-ghost use Rattle.std.specs.Prelude.{◌≡◌, ◌<◌, ◌≤◌, ◌++◌, ℕ, [], List, length, IfErr, IfOk, OnErr, OnOk};
+ghost use Rattle.std.specs.Prelude.{◌≡◌, ◌<◌, ◌≤◌, ◌++◌, ℕ, [], List, false, length, IfErr, IfOk, OnErr, OnOk};
 ghost use Rattle.std.specs.Io.KnownBytes.{Appends, Consumes, IsAtEnd, Keeps};
 ghost use Rattle.zone_print.specs.Device.{Fails, WorksOn};
 ghost use Rattle.zone_print.specs.Writing.{AppendsPart, IsFailedWrite};
+ghost use Rattle.zone_words.specs.Stopped.{ends_inside, inside_after};
 ghost use Rattle.words_command.specs.Filtering.{EndsWith, IsStopped, IsWrittenWhole};
-ghost use Rattle.words_command.specs.Machine.Halting.{IfWriterWorks, IsHalted};
+ghost use Rattle.words_command.specs.Machine.Halting.{IfWriterWorks, IsHalted, closing};
 
 use crate::failure::Failure;
 use crate::filter::Filter;
+use crate::last_line::{LastLine, is_inside_after};
 use std::alloc::Global;
 use zone_engine::{OctetReader, PIECE, read_piece, zeros};
 use zone_print::{OctetWriter, write_octets};
@@ -22,12 +24,12 @@ const MOST_OCTETS: u64 = 1 << 63;
 /// # Errors
 ///
 /// `Read` where the reader failed or gives more than 2^63 octets, and `Memory`: what the filter
-/// writes for what was read is written, and `last`, as far as the writer takes it. `Write` where
-/// the writer failed before that. A reader or a writer that failed isn't called again.
+/// writes for what was read is written, and the last line, as far as the writer takes it. `Write`
+/// where the writer failed before that. A reader or a writer that failed isn't called again.
 pub(crate) fn filter_all<F: Filter, R: OctetReader, W: OctetWriter>(
     alloc: Global,
     filter: &mut F,
-    last: &[u8],
+    last: LastLine,
     input: &mut R,
     output: &mut W,
 ) -> Result<(), Failure>
@@ -38,13 +40,16 @@ pub(crate) fn filter_all<F: Filter, R: OctetReader, W: OctetWriter>(
         (W.state output.old) (W.state output.new)) }
     ensures stopped { IfErr result (λ failure. (under : F.Under)
         → F.Stands under filter.old [] []
-        → IsStopped (F.writes under) last.now (R.state input.old) (R.state input.new)
+        → IsStopped (F.writes under) (closing last) (R.state input.old) (R.state input.new)
         (W.state output.old) (W.state output.new) failure) }
 {
-    match pass_all(alloc, filter, input, output) {
+    let mut is_inside = false;
+    match pass_all(alloc, filter, input, output, &mut is_inside) {
         Ok(()) => Ok(()),
         Err(failure) => {
-            end_with(failure, filter.written(), last, output);
+            let text = filter.written();
+            let end = last.octets(is_inside_after(is_inside, text));
+            end_with(failure, text, end, output);
             Err(failure)
         }
     }
@@ -54,27 +59,30 @@ pub(crate) fn filter_all<F: Filter, R: OctetReader, W: OctetWriter>(
 ///
 /// # Errors
 ///
-/// Those of [`filter_all`]. But for `Write`, what the filter still holds is to be written.
+/// Those of [`filter_all`]. But for `Write`, what the filter still holds is to be written, after a
+/// text that ends inside a line or doesn't, as `is_inside` has it.
 fn pass_all<F: Filter, R: OctetReader, W: OctetWriter>(
     alloc: Global,
     filter: &mut F,
     input: &mut R,
     output: &mut W,
+    is_inside: &mut bool,
 ) -> Result<(), Failure>
     requires going { F.IsOpen filter.old }
     requires unfed { F.fed filter.old ≡ 0 }
+    requires begun { is_inside.old ≡ false }
     ensures done { OnOk result ((under : F.Under) → F.Stands under filter.old [] []
         → IsWrittenWhole (F.Whole under filter.new) (R.state input.old) (R.state input.new)
         (W.state output.old) (W.state output.new)) }
     ensures halted { IfErr result (λ failure. (under : F.Under)
         → F.Stands under filter.old [] []
-        → IsHalted (F.writes under) (F.held filter.new) (R.state input.old)
-        (R.state input.new) (W.state output.old) (W.state output.new) failure) }
+        → IsHalted (F.writes under) (F.held filter.new) is_inside.new
+        (R.state input.old) (R.state input.new) (W.state output.old) (W.state output.new) failure) }
 {
     let mut piece = zeros(alloc, PIECE)?;
-    feed_all(filter, input, &mut piece, output)?;
+    feed_all(filter, input, &mut piece, output, is_inside)?;
     filter.finish()?;
-    write_held(filter, output)?;
+    write_held(filter, output, is_inside)?;
     Ok(())
 }
 
@@ -88,19 +96,22 @@ fn feed_all<F: Filter, R: OctetReader, W: OctetWriter>(
     input: &mut R,
     piece: &mut [u8],
     output: &mut W,
+    is_inside: &mut bool,
 ) -> Result<(), Failure>
     requires going { F.IsOpen filter.old }
     requires unfed { F.fed filter.old ≡ 0 }
+    requires begun { is_inside.old ≡ false }
     requires room { 0 < length piece.old }
     requires small { length piece.old ≤ 65536 }
     ensures read { OnOk result ((under : F.Under) → F.Stands under filter.old [] []
-        → IsWrittenWhole (F.Stands under filter.new) (R.state input.old) (R.state input.new)
+        → IsWrittenWhole (λ octets text. F.Stands under filter.new octets text
+        × (is_inside.new ≡ ends_inside text)) (R.state input.old) (R.state input.new)
         (W.state output.old) (W.state output.new)) }
     ensures going { OnOk result (F.IsOpen filter.new) }
     ensures halted { IfErr result (λ failure. (under : F.Under)
         → F.Stands under filter.old [] []
-        → IsHalted (F.writes under) (F.held filter.new) (R.state input.old)
-        (R.state input.new) (W.state output.old) (W.state output.new) failure) }
+        → IsHalted (F.writes under) (F.held filter.new) is_inside.new
+        (R.state input.old) (R.state input.new) (W.state output.old) (W.state output.new) failure) }
 {
     let mut count = 0;
     while count <= MOST_OCTETS {
@@ -109,7 +120,7 @@ fn feed_all<F: Filter, R: OctetReader, W: OctetWriter>(
             return Ok(());
         }
         filter.feed(given)?;
-        write_held(filter, output)?;
+        write_held(filter, output, is_inside)?;
         count += given.len() as u64;
     }
     Err(Failure::Read)
@@ -137,12 +148,17 @@ fn read<'p, R: OctetReader>(input: &mut R, piece: &'p mut [u8]) -> Result<&'p [u
     }
 }
 
-/// Writes what a filter holds, which counts as given then.
+/// Writes what a filter holds, which counts as given then, and keeps whether what was written ends
+/// inside a line.
 ///
 /// # Errors
 ///
 /// `Write` where the writer failed. A proper prefix was written.
-fn write_held<F: Filter, W: OctetWriter>(filter: &mut F, output: &mut W) -> Result<(), Failure>
+fn write_held<F: Filter, W: OctetWriter>(
+    filter: &mut F,
+    output: &mut W,
+    is_inside: &mut bool,
+) -> Result<(), Failure>
     ensures written { OnOk result (Appends (W.state output.old).octets (W.state output.new).octets
         (F.held filter.old)) }
     ensures stands { OnOk result ((under : F.Under) (octets given : List ℕ)
@@ -152,6 +168,7 @@ fn write_held<F: Filter, W: OctetWriter>(filter: &mut F, output: &mut W) -> Resu
         → F.Whole under filter.old octets text → F.Whole under filter.new octets text) }
     ensures going { OnOk result (F.IsOpen filter.old → F.IsOpen filter.new) }
     ensures count { OnOk result (F.fed filter.new ≡ F.fed filter.old) }
+    ensures inside { OnOk result (is_inside.new ≡ inside_after is_inside.old (F.held filter.old)) }
     ensures works { OnOk result (WorksOn (W.state output.old) (W.state output.new)) }
     ensures part { OnErr result (AppendsPart (W.state output.old).octets
         (W.state output.new).octets (F.held filter.old)) }
@@ -160,6 +177,7 @@ fn write_held<F: Filter, W: OctetWriter>(filter: &mut F, output: &mut W) -> Resu
 {
     match write_octets(output, filter.written()) {
         Ok(()) => {
+            *is_inside = is_inside_after(*is_inside, filter.written());
             filter.clear_written();
             Ok(())
         }

@@ -6,6 +6,7 @@ mod command;
 mod failure;
 mod filter;
 mod filtering;
+mod last_line;
 mod order;
 mod program;
 

@@ -5,7 +5,7 @@ ghost use Rattle.words_command.specs.Order.{Asks, IsOriginText, Orders, IsLineFa
 
 use crate::command::PROGRAM;
 use clap::ArgMatches;
-use command_input::{LineFault, origin_fault};
+use command_input::LineFault;
 use command_line::{FromMatches, Program, after_name, call_of};
 use std::alloc::Global;
 use zone_name::CasedName;
@@ -25,8 +25,7 @@ pub enum Order {
 ///
 /// # Errors
 ///
-/// `NoFinalDot` where the text of the origin spells no absolute name (RFC 1035 5.1), and would spell
-/// one with a dot at its end, and `BadOrigin` where it spells none for another reason; `Clap` where
+/// `BadOrigin` where the text of the origin spells no absolute name (RFC 1035 5.1); `Clap` where
 /// `clap` gives no matches for a command, help included; `Memory`.
 pub fn order_of(alloc: Global, words: &[String]) -> Result<Order, LineFault>
     ensures ordered { IfOk result (Orders (map string_bytes words.now)) }
@@ -83,7 +82,7 @@ impl Call<'_> {
     ///
     /// # Errors
     ///
-    /// `BadOrigin` and `NoFinalDot`.
+    /// `BadOrigin`.
     fn order(self) -> Result<Order, LineFault>
         ensures ordered { IfOk result (Asks (texts_of self.entry)) }
         ensures refused { IfErr result (IsOfCall (texts_of self.entry)) }
@@ -99,13 +98,13 @@ impl Call<'_> {
 ///
 /// # Errors
 ///
-/// `BadOrigin` and `NoFinalDot`.
+/// `BadOrigin`.
 fn origin_of(text: &str) -> Result<CasedName, LineFault>
     ensures ordered { IfOk result (IsOriginText text.now) }
     ensures refused { IfErr result (IsOfOrigin IsOriginText text.now) }
 {
     match CasedName::from_text(text.as_bytes(), None) {
         Ok(origin) => Ok(origin),
-        Err(_) => Err(origin_fault(text)),
+        Err(_) => Err(LineFault::BadOrigin),
     }
 }

@@ -23,10 +23,11 @@ use zone_words::{Refusal, Refusals};
 ///
 /// Where reading failed, or memory was refused before all was written, the writer got what is
 /// written for the whole entries before and a last line `$STOPPED`, or a proper prefix of that; of
-/// a text in words what is shown for the whole lines before, or a proper prefix of that. The line
-/// is still that of the first failure. Where writing failed it got a proper prefix of what was
-/// being written, and nothing more. A reader that gives more than 2^63 octets is taken for one that
-/// failed. No writer is flushed, and a reader or a writer that failed isn't called again.
+/// a text in words what is shown for the whole lines before, or a proper prefix of that. A line feed
+/// goes before `$STOPPED` where the text broke inside a line. The line is still that of the first
+/// failure. Where writing failed it got a proper prefix of what was being written, and nothing more.
+/// A reader that gives more than 2^63 octets is taken for one that failed. No writer is flushed, and
+/// a reader or a writer that failed isn't called again.
 pub fn run<R: OctetReader, W: OctetWriter, E: OctetWriter>(
     alloc: Global,
     order: &Order,

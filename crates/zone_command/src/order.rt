@@ -33,9 +33,8 @@ pub enum Order {
 ///
 /// # Errors
 ///
-/// `NoFinalDot` where the text of an origin is neither an absolute name nor `transfer`, and would be
-/// a name with a dot at its end, and `BadOrigin` where it is neither for another reason; `Clap`
-/// where `clap` gives no matches for one of the commands, help included; `Memory`.
+/// `BadOrigin` where the text of an origin is neither an absolute name nor `transfer`; `Clap` where
+/// `clap` gives no matches for one of the commands, help included; `Memory`.
 pub fn order_of(alloc: Global, words: &[String]) -> Result<Order, LineFault>
     ensures ordered { IfOk result (Orders (map string_bytes words.now)) }
     ensures refused { IfErr result (IsLineFault (map string_bytes words.now)) }
@@ -110,7 +109,7 @@ impl Call<'_> {
     ///
     /// # Errors
     ///
-    /// `BadOrigin` and `NoFinalDot`, and `Memory`, which only paths take.
+    /// `BadOrigin`, and `Memory`, which only paths take.
     fn order(self, alloc: Global) -> Result<Order, LineFault>
         ensures ordered { IfOk result (Asks (texts_of self.entry)) }
         ensures refused { IfErr result (IsOfCall (texts_of self.entry)) }

@@ -57,7 +57,7 @@ pub fn run<R1: OctetReader, R2: OctetReader, W: OctetWriter, E: OctetWriter>(
             );
             match compare(alloc, forms.0, first, forms.1, second) {
                 Ok(verdict) => tell_verdict(verdict, output, errors),
-                Err(error) => report(error.which.words(), &error.stop, errors),
+                Err((which, stop)) => report(which.words(), &stop, errors),
             }
         }
     }

@@ -46,7 +46,7 @@ impl Which {
     }
 }
 
-/// Why two inputs weren't compared.
+/// What shows a user why two inputs weren't compared. It is made of the pair that [`compare`] answers.
 #[derive(Debug, Drop)]
 pub struct CompareError {
     /// The first input that stopped it.
@@ -70,6 +70,15 @@ impl fmt::Display for CompareError {
 
 impl Error for CompareError {}
 
+impl From<(Which, Stop)> for CompareError {
+    ghost from_gives = { λ pair error. error ≡ record { which = pair.0; stop = pair.1 } };
+
+    fn from(pair: (Which, Stop)) -> CompareError {
+        let (which, stop) = pair;
+        CompareError { which, stop }
+    }
+}
+
 /// Compares the canonical texts of the zones that two readers' octets denote, without making the
 /// texts. Each reader is read as by [`normalise`](crate::normalise), the second one after the first
 /// input was judged whole.
@@ -85,7 +94,7 @@ pub fn compare<R: OctetReader, S: OctetReader>(
     first: &mut R,
     second_form: Form<'_>,
     second: &mut S,
-) -> Result<Verdict, CompareError>
+) -> Result<Verdict, (Which, Stop)>
     ensures compared { IfOk result (λ verdict.
         IfSome (R.state first.old).octets (λ octets. IfSome (S.state second.old).octets (λ others.
         Compares (read_as first_form.entry octets)
@@ -93,23 +102,17 @@ pub fn compare<R: OctetReader, S: OctetReader>(
     ensures stopped { IfErr result
         (λ why. StopsCompare (read_as first_form.entry) (read_as second_form.entry)
         (R.state first.old) (R.state first.new) (S.state second.old) (S.state second.new)
-        why.which why.stop) }
+        why.0 why.1) }
     ensures read { OnOk result (ReadsToEnd text_limit (R.state first.old) (R.state first.new)
         × ReadsToEnd text_limit (S.state second.old) (S.state second.new)) }
 {
     let zone = match accepted_zone(alloc, first_form, first) {
         Ok(zone) => zone,
-        Err(stop) => {
-            let which = Which::First;
-            return Err(CompareError { which, stop });
-        }
+        Err(stop) => return Err((Which::First, stop)),
     };
     match accepted_zone(alloc, second_form, second) {
         Ok(other) => Ok(first_difference(&zone, &other)),
-        Err(stop) => {
-            let which = Which::Second;
-            Err(CompareError { which, stop })
-        }
+        Err(stop) => Err((Which::Second, stop)),
     }
 }
 
@@ -124,12 +127,12 @@ pub fn compare_bytes(
     first: &[u8],
     second_form: Form<'_>,
     second: &[u8],
-) -> Result<Verdict, CompareError>
+) -> Result<Verdict, (Which, Stop)>
     ensures compared { IfOk result (Compares (read_as first_form.entry first.now)
         (read_as second_form.entry second.now)) }
     ensures stopped { IfErr result
         (λ why. StopsCompareBytes (read_as first_form.entry first.now)
-        (read_as second_form.entry second.now) why.which why.stop) }
+        (read_as second_form.entry second.now) why.0 why.1) }
 {
     let mut first = OctetSlice { rest: first };
     let mut second = OctetSlice { rest: second };

@@ -148,6 +148,27 @@ a TYPE257 \\# 8 0005697373756578
 $STOPPED
 --
 read failed
+== last_line_is_its_own_after_a_text_that_broke
+generic example.
+broken
+a CAA 0 issue \"x\"
+) b CAA 0 issue \"x\"
+c CAA 0=> 4
+a TYPE257 \\# 8 0005697373756578
+) b CAA 0 issue \"x\"
+c CAA 0
+$STOPPED
+--
+read failed
+== broken_text_that_a_line_feed_ends_gets_none
+generic example.
+broken
+a CAA 0 issue ) ; c
+=> 4
+a CAA 0 issue ) ; c
+$STOPPED
+--
+read failed
 == failed_read_at_once
 generic example.
 broken
@@ -212,13 +233,13 @@ whole
 a A 192.0.2.1
 => 2
 --
-an origin is an absolute name; this one lacks the dot at its end
+an origin is an absolute name
 == transfer_is_no_origin
 generic transfer
 whole
 => 2
 --
-an origin is an absolute name; this one lacks the dot at its end
+an origin is an absolute name
 ";
 
 #[test]
@@ -337,17 +358,17 @@ generic X. => generic \x01X\0
 generic . => generic \0
 generic transfer. => generic \x08transfer\0
 generic \\-a. => generic \x02-a\0
-generic x => 2 an origin is an absolute name; this one lacks the dot at its end
+generic x => 2 an origin is an absolute name
 generic @ => 2 an origin is an absolute name
 generic a.. => 2 an origin is an absolute name
-generic transfer => 2 an origin is an absolute name; this one lacks the dot at its end
+generic transfer => 2 an origin is an absolute name
 generic  => 2 an origin is an absolute name
 generic => 2 error: the following required arguments were not provided:
 generic x. y. => 2 error: unexpected argument 'y.' found
 generic -a. => 2 error: unexpected argument '-a' found
 words => words
 words . => 2 error: unexpected argument '.' found
-generic words => 2 an origin is an absolute name; this one lacks the dot at its end
+generic words => 2 an origin is an absolute name
 normalise x. => 2 error: unrecognized subcommand 'normalise'
  => 2 Writes the records of further types in the generic form, or in words
 --help => 2 Writes the records of further types in the generic form, or in words

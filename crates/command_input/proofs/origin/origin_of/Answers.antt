@@ -1,5 +1,4 @@
-use Rattle.command_input.proofs.Origins.{no_origin, not_same, of_origin}
-use Rattle.command_input.specs.Origin.{IsOriginText}
+use Rattle.command_input.proofs.Origins.{no_origin, not_same}
 use Rattle.command_input.proofs.origin.origin_of.Goals as goal
 
 pub returns-in-Ok-clause-ordered : goal.returns-in-Ok-clause-ordered
@@ -7,4 +6,4 @@ returns-in-Ok-clause-ordered c = rw (← c.as_bytes.ensures.value) c.in-Ok.ensur
 
 pub returns-in-Err-clause-refused : goal.returns-in-Err-clause-refused
 returns-in-Err-clause-refused c =
-    of_origin IsOriginText _ _ (no_origin _ (not_same _ _ _ c.eq.ensures c.if-eq.false) (λ name s. let h = c.in-Err.ensures.only name (rw c.as_bytes.ensures.value s) in cc)) c.origin_fault.ensures
+    no_origin _ (not_same _ _ _ c.eq.ensures c.if-eq.false) (λ name s. let h = c.in-Err.ensures.only name (rw c.as_bytes.ensures.value s) in cc)

@@ -1,5 +1,8 @@
 use Rattle.std.proofs.lemmas.Result.{err_from_is_err_and}
-use Rattle.words_command.proofs.Halting.{[]}
+use Rattle.zone_words.specs.Stopped.{ends_inside, stopped_line}
+use Rattle.words_command.proofs.Halting.{[], refl, stopped_alike}
+use Rattle.words_command.proofs.LastLines.{apart}
+use Rattle.words_command.specs.Run.{rewriting}
 use Rattle.words_command.proofs.Filters.{rewrites, rewritten_whole}
 use Rattle.words_command.proofs.carry_out.rewrite.Goals as goal
 
@@ -8,7 +11,7 @@ returns-in_err-filter_all-clause-stopped g c =
     let origin = c.args.origin.now in
     let new = c.new-rewriter in
     let p = err_from_is_err_and c.from_residual.result c.from_residual.ensures.1 in
-    rw (p.1, p.2) (c.in_err-filter_all.ensures.stopped origin (rewrites origin new.result [] [] new.ensures.stands new.ensures.going))
+    rw (p.1, p.2) (stopped_alike (rewriting origin) _ stopped_line _ _ _ _ _ (λ text. apart (ends_inside text) _ _ refl) (c.in_err-filter_all.ensures.stopped origin (rewrites origin new.result [] [] new.ensures.stands new.ensures.going)))
 
 pub returns-clause-done : goal.returns-clause-done
 returns-clause-done g c =

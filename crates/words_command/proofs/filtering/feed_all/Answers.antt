@@ -1,4 +1,4 @@
-use Rattle.words_command.proofs.Halting.{◌<◌, ◌++◌, [], length, refl, sym, arith, Appends-trans, Consumes-trans, most_octets}
+use Rattle.words_command.proofs.Halting.{◌<◌, ◌++◌, [], length, refl, sym, arith, Appends-trans, Consumes-trans, inside_grown, most_octets}
 use Rattle.std.proofs.Common.{◌∙◌, length-append, rules}
 use Rattle.std.proofs.KnownBytes.{Appends-nil, Consumes-nil}
 use Rattle.std.proofs.lemmas.Result.{err_from_is_err_and}
@@ -13,6 +13,7 @@ loop-count-init g c = record {
   given = [];
   read = Consumes-nil _;
   written = Appends-nil _;
+  ends = c.requires.begun;
   works = (λ w. w, λ w. w);
   counted = refl;
   few = rw c.requires.unfed (search rules);
@@ -29,7 +30,7 @@ returns-then-is_empty-clause-read g c = λ under begun.
       read = consumed_none _ _ _ _ _ fed.read c.in_ok-given.ensures.taken nothing;
       to_end = c.in_ok-given.ensures.end nothing;
       text = fed.given;
-      is = fed.stands under begun;
+      is = (fed.stands under begun, fed.ends);
       written = fed.written;
       works = (λ w. c.in_ok-given.ensures.works (fed.works.0 w), fed.works.1);
     }
@@ -39,14 +40,14 @@ returns-in_err-given-clause-halted g c =
     let fed = c.loop-count.invariant in
     let p = err_from_is_err_and c.from_residual.result c.from_residual.ensures.1 in
     rw (p.1, p.2, c.in_err-given.ensures.read) (λ under begun.
-    halts_unread (g.F.Filter.writes under) _ _ (g.R.OctetReader.state c.loop-count.input) _ _ fed.octets fed.given fed.read fed.written fed.works _ (g.met.F.Filter.so_far under c.loop-count.filter fed.octets fed.given (fed.stands under begun)) c.in_err-given.ensures.kept c.in_err-given.ensures.failed)
+    halts_unread (g.F.Filter.writes under) _ _ _ (g.R.OctetReader.state c.loop-count.input) _ _ fed.octets fed.given fed.read fed.written fed.ends fed.works _ (g.met.F.Filter.so_far under c.loop-count.filter fed.octets fed.given (fed.stands under begun)) c.in_err-given.ensures.kept c.in_err-given.ensures.failed)
 
 pub returns-in_err-feed-clause-halted : goal.returns-in_err-feed-clause-halted
 returns-in_err-feed-clause-halted g c =
     let fed = c.loop-count.invariant in
     let p = err_from_is_err_and c.from_residual-in_err-feed.result c.from_residual-in_err-feed.ensures.1 in
     rw (p.1, p.2) (λ under begun.
-    halts_memory (g.F.Filter.writes under) _ _ _ _ _ (fed.octets ++ c.in_ok-given.given.now) fed.given (Consumes-trans _ _ _ _ _ fed.read c.in_ok-given.ensures.taken) fed.written
+    halts_memory (g.F.Filter.writes under) _ _ _ _ _ _ (fed.octets ++ c.in_ok-given.given.now) fed.given (Consumes-trans _ _ _ _ _ fed.read c.in_ok-given.ensures.taken) fed.written fed.ends
     (λ w. c.in_ok-given.ensures.works (fed.works.0 w), fed.works.1) (c.in_err-feed.ensures.in_part under fed.octets fed.given (fed.stands under begun)))
 
 pub returns-in_err-write_held-clause-halted : goal.returns-in_err-write_held-clause-halted
@@ -54,9 +55,9 @@ returns-in_err-write_held-clause-halted g c =
     let fed = c.loop-count.invariant in
     let p = err_from_is_err_and c.from_residual-in_err-write_held.result c.from_residual-in_err-write_held.ensures.1 in
     rw (p.1, p.2, c.in_err-write_held.ensures.write) (λ under begun.
-    halts_unwritten (g.F.Filter.writes under) _ _ _ _ (g.W.OctetWriter.state c.loop-count.output) (fed.octets ++ c.in_ok-given.given.now) fed.given (Consumes-trans _ _ _ _ _ fed.read c.in_ok-given.ensures.taken) fed.written
+    halts_unwritten (g.F.Filter.writes under) _ _ _ _ _ (g.W.OctetWriter.state c.loop-count.output) (fed.octets ++ c.in_ok-given.given.now) fed.given (Consumes-trans _ _ _ _ _ fed.read c.in_ok-given.ensures.taken) fed.written fed.ends
     (λ w. c.in_ok-given.ensures.works (fed.works.0 w), fed.works.1) (g.F.Filter.held c.feed.new.self) _
-    (runs.so_far (g.met.F.Filter.so_far under c.feed.new.self _ _ (c.in_ok-feed.ensures.stands under fed.octets fed.given (fed.stands under begun)))) c.in_err-write_held.ensures.part c.in_err-write_held.ensures.failed)
+    (runs.so_far (g.met.F.Filter.so_far under c.feed.new.self _ _ (c.in_ok-feed.ensures.stands under fed.octets fed.given (fed.stands under begun)))) c.in_err-write_held.ensures.part c.in_err-write_held.ensures.failed _)
 
 pub loop-count-preserved : goal.loop-count-preserved
 loop-count-preserved g c =
@@ -66,6 +67,7 @@ loop-count-preserved g c =
       given = fed.given ++ g.F.Filter.held c.feed.new.self;
       read = Consumes-trans _ _ _ _ _ fed.read c.in_ok-given.ensures.taken;
       written = Appends-trans _ _ _ _ _ fed.written c.in_ok-write_held.ensures.written;
+      ends = inside_grown _ _ fed.given (g.F.Filter.held c.feed.new.self) fed.ends c.in_ok-write_held.ensures.inside;
       works = (λ w. c.in_ok-given.ensures.works (fed.works.0 w), λ w. c.in_ok-write_held.ensures.works (fed.works.1 w));
       counted = rw length-append (rw fed.counted refl);
       few = rw (length-append, c.in_ok-write_held.ensures.count) (omega (arith, c.in_ok-feed.ensures.count, fed.few));
@@ -77,4 +79,4 @@ pub returns-clause-halted : goal.returns-clause-halted
 returns-clause-halted g c = λ under begun.
     let fed = c.loop-count.invariant in
     let long : most_octets < length fed.octets = rw (sym fed.counted) (omega arith) in
-    halts_long (g.F.Filter.writes under) _ _ _ _ _ fed.octets fed.given fed.read fed.written fed.works (g.met.F.Filter.so_far under c.loop-count.filter fed.octets fed.given (fed.stands under begun)) long
+    halts_long (g.F.Filter.writes under) _ _ _ _ _ _ fed.octets fed.given fed.read fed.written fed.ends fed.works (g.met.F.Filter.so_far under c.loop-count.filter fed.octets fed.given (fed.stands under begun)) long

@@ -7,7 +7,7 @@ abbrev pub invariant-loop-count : goal.invariant-loop-count
 invariant-loop-count g l =
     let read = g.R.OctetReader.state in
     let written = g.W.OctetWriter.state in
-    HasFed (λ (under : g.F.Filter.Under). g.F.Filter.Stands under l.initial.filter [] []) (λ (under : g.F.Filter.Under). g.F.Filter.Stands under l.filter) (g.F.Filter.IsOpen l.filter) (g.F.Filter.fed l.filter) (read l.initial.input) (read l.input) (written l.initial.output) (written l.output) l.count
+    HasFed (λ (under : g.F.Filter.Under). g.F.Filter.Stands under l.initial.filter [] []) (λ (under : g.F.Filter.Under). g.F.Filter.Stands under l.filter) (g.F.Filter.IsOpen l.filter) (g.F.Filter.fed l.filter) l.is_inside (read l.initial.input) (read l.input) (written l.initial.output) (written l.output) l.count
 
 -- the octets that may still come
 abbrev pub decreases-loop-count : goal.decreases-loop-count

@@ -24,12 +24,12 @@ returns-in-Ok-compare-clause-ran g c =
 
 pub returns-in-Err-compare-clause-ran : goal.returns-in-Err-compare-clause-ran
 returns-in-Err-compare-clause-ran g c =
-    rw c.in-Compare.is (compare_stopped c.in-Compare.one c.in-Compare.other _ _ c.with_origin-in-Compare.ensures c.with_origin-in-Compare-2.ensures _ _ c.in-Err-compare.error.which c.in-Err-compare.error.stop _ _ c.in-Err-compare.ensures.stopped (Keeps-refl _, λ w. w) c.words.ensures c.report-in-Err-compare.ensures)
+    rw c.in-Compare.is (compare_stopped c.in-Compare.one c.in-Compare.other _ _ c.with_origin-in-Compare.ensures c.with_origin-in-Compare-2.ensures _ _ c.in-Err-compare.which c.in-Err-compare.stop _ _ c.in-Err-compare.ensures.stopped (Keeps-refl _, λ w. w) c.words.ensures c.report-in-Err-compare.ensures)
 
 pub returns-in-Err-compare-clause-first : goal.returns-in-Err-compare-clause-first
 returns-in-Err-compare-clause-first g c =
-    few_of_first _ _ _ _ _ _ c.in-Err-compare.error.which c.in-Err-compare.error.stop c.in-Err-compare.ensures.stopped
+    few_of_first _ _ _ _ _ _ c.in-Err-compare.which c.in-Err-compare.stop c.in-Err-compare.ensures.stopped
 
 pub returns-in-Err-compare-clause-second : goal.returns-in-Err-compare-clause-second
 returns-in-Err-compare-clause-second g c =
-    rw c.in-Compare.is (few_of_second _ _ _ _ _ _ c.in-Err-compare.error.which c.in-Err-compare.error.stop c.in-Err-compare.ensures.stopped)
+    rw c.in-Compare.is (few_of_second _ _ _ _ _ _ c.in-Err-compare.which c.in-Err-compare.stop c.in-Err-compare.ensures.stopped)
