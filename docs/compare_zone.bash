@@ -1,5 +1,5 @@
 # Completion of compare_zone, compare_zones, check_zones, capture_transfer and to_nsupdate for bash.
-# tools/install puts it where bash looks for it.
+# tools/package/install puts it where bash looks for it.
 _zone_commands() {
     local name=${1##*/} word=${COMP_WORDS[COMP_CWORD]} before=${COMP_WORDS[COMP_CWORD - 1]}
     local asking='--class --key --timeout --tls --tls-ca --tls-hostname -k -t'

@@ -1,4 +1,4 @@
-# Completion of zonenorm for bash. tools/install puts it where bash looks for it.
+# Completion of zonenorm for bash. tools/package/install puts it where bash looks for it.
 _zonenorm() {
     local word=${COMP_WORDS[COMP_CWORD]} command=${COMP_WORDS[1]}
     COMPREPLY=()

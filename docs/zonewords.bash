@@ -1,4 +1,4 @@
-# Completion of zonewords for bash. tools/install puts it where bash looks for it.
+# Completion of zonewords for bash. tools/package/install puts it where bash looks for it.
 _zonewords() {
     local word=${COMP_WORDS[COMP_CWORD]}
     COMPREPLY=()
