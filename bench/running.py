@@ -1,15 +1,18 @@
 """What a run of a program takes: CPU seconds, peak memory and user instructions."""
+from __future__ import annotations
+
 import os
 import re
 import shutil
 import subprocess
 import tempfile
 import time
+from collections.abc import Sequence
 
 PLAIN = {**os.environ, "LC_ALL": "C"}
 
 
-def measured(words, stdin, stdout=os.devnull):
+def measured(words: Sequence[str], stdin: str, stdout: str = os.devnull) -> tuple[float, int] | None:
     """CPU seconds and peak memory in octets, where the answer is that an input is accepted or refused."""
     with open(stdin, "rb") as zone, open(stdout, "wb") as sink:
         child = subprocess.Popen(words, stdin=zone, stdout=sink, stderr=subprocess.DEVNULL, env=PLAIN)
@@ -23,14 +26,14 @@ def measured(words, stdin, stdout=os.devnull):
     return (used.ru_utime + used.ru_stime, peak) if child.returncode in (0, 3) else None
 
 
-def peak_of(pid):
+def peak_of(pid: int) -> int:
     """The peak memory of a process so far, in octets."""
     with open(f"/proc/{pid}/status") as told:
         found = re.search(r"VmHWM:\s+(\d+)", told.read())
     return int(found[1]) * 1024 if found else 0
 
 
-def instructions(words, stdin):
+def instructions(words: Sequence[str], stdin: str) -> int | None:
     """User instructions, by perf or else by valgrind."""
     if shutil.which("perf"):
         with open(stdin, "rb") as zone, tempfile.NamedTemporaryFile("r") as told:
@@ -42,7 +45,7 @@ def instructions(words, stdin):
     return instructions_by_valgrind(words, stdin) if shutil.which("valgrind") else None
 
 
-def instructions_by_valgrind(words, stdin):
+def instructions_by_valgrind(words: Sequence[str], stdin: str) -> int | None:
     """User instructions, the same in each run."""
     with open(stdin, "rb") as zone:
         done = subprocess.run(["valgrind", "--tool=cachegrind", "--cache-sim=no", "--cachegrind-out-file=/dev/null", *words],

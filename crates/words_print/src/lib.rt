@@ -4,7 +4,6 @@
 
 mod canonical_head;
 mod class_stated;
-mod digits;
 mod generic_line;
 pub mod laws;
 mod line_printer;

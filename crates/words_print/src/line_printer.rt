@@ -1,5 +1,4 @@
 //! Lines in words.
-ghost use Rattle.hex.specs.Hex.{decode_of};
 ghost use Rattle.std.specs.Prelude.{◌≡◌, ◌++◌, ◌∷◌, ℕ, List, [], IfOk, Ok, OnErr, OnOk, false, length, map, true};
 ghost use Rattle.words_print.specs.Machine.Found.{DoesNotFit, FoundIn, HasData, HasNoData, HoldsNothing, IsCanonicalLine, StatesInFew, with_octets};
 ghost use Rattle.words_print.specs.Shown.{Fits, IsRecordInWords, IsShownLine, another_origin};
@@ -13,13 +12,11 @@ ghost use Rattle.zone_words.specs.Table.{of_code};
 
 use crate::canonical_head::{are_owner_and_ttl, is_plain_word};
 use crate::class_stated::{ClassStated, class_stated, room_for_items};
-use crate::digits::read_digits;
 use crate::generic_line::{GenericLine, generic_line};
-use hex::{FromHexError, decode};
 use std::alloc::{AllocError, Global};
 use zone_name::CasedName;
 use zone_name::laws::are_octets;
-use zone_rdata::Item;
+use zone_rdata::{Item, push_octets_of_hex};
 use zone_words::laws::rewriting_is_unique;
 use zone_words::laws::words::{a_line_in_words_is_rewritten, the_words_of_data};
 use zone_words::{Rewriter, Unprinted, print_data, push_generic};
@@ -150,23 +147,6 @@ impl LinePrinter {
         Ok(self.wanted.as_slice() == line)
     }
 
-    /// Puts the octets that digits stand for in place of those that it had. `false`: they stand for
-    /// none.
-    fn decode_octets(&mut self, digits: &[u8]) -> Result<bool, AllocError>
-        ensures yes { result ≡ Ok true → decode_of digits.now ≡ Ok self.new.octets.items }
-        ensures no { result ≡ Ok false
-            → (octets : List ℕ) → decode_of digits.now ≡ Ok octets → ⊥ }
-    {
-        match decode(self.alloc, digits) {
-            Ok(octets) => {
-                self.octets = octets;
-                Ok(true)
-            }
-            Err(FromHexError::OutOfMemory) => Err(AllocError),
-            Err(_) => Ok(false),
-        }
-    }
-
     /// Puts the octets with which the line ends in place of those that it had. `false`: it ends
     /// with no octets in the generic form.
     fn find_octets(&mut self, line: &[u8], found: &GenericLine) -> Result<bool, AllocError>
@@ -175,10 +155,7 @@ impl LinePrinter {
         ensures no { result ≡ Ok false → HasNoData line.now }
     {
         self.octets.clear();
-        if read_digits(found.digits, &mut self.octets)? && self.has_octets(line, found)? {
-            return Ok(true);
-        }
-        if !self.decode_octets(found.digits)? {
+        if !push_octets_of_hex(found.digits, &mut self.octets)? {
             return Ok(false);
         }
         self.has_octets(line, found)

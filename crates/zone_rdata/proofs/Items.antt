@@ -3,4 +3,5 @@ pub mod Forms
 pub mod GenericLaws
 pub mod ItemLaws
 pub mod LeftOut
+pub mod ReadDigits
 pub mod Values

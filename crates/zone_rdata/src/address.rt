@@ -6,6 +6,7 @@ mod ipv6;
 mod printing;
 
 pub use groups::four_groups_of;
+pub(crate) use groups::octet_of_pair;
 pub use ipv4::ipv4_octets_of;
 pub use ipv6::ipv6_octets_of;
 pub use printing::{push_ipv4, push_ipv6};

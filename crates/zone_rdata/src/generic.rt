@@ -1,5 +1,5 @@
 ghost use Rattle.std.specs.Prelude.{◌≡◌, ◌≢◌, ◌≤◌, length, map, IfErr, OnOk, Ok};
-ghost use Rattle.hex.specs.Hex.{decode_of};
+ghost use Rattle.hex.specs.Hex.{decode_of, encode_lower};
 ghost use Rattle.zone_name.specs.Common.{Octets};
 ghost use Rattle.zone_rdata.specs.Fault.{IfFault, NoValue};
 ghost use Rattle.zone_rdata.specs.Generic.{GenericFault, JoinTo, StatesGeneric};
@@ -8,11 +8,11 @@ ghost use Rattle.zone_rdata.specs.Item.{IsGeneric, raw};
 
 use crate::cause::Cause;
 use crate::fault::Fault;
+use crate::hexadecimal::push_octets_of_hex;
 use crate::item::Item;
 use crate::limits::LONGEST_DATA;
 use crate::narrow_failing::NarrowFailing;
 use crate::number::decimal_of;
-use hex::decode_to_slice;
 
 /// Reads the octets that items state in the generic form: `\#`, their number, and their hexadecimal
 /// digits (RFC 3597 5). They come in the place of those of before.
@@ -58,25 +58,12 @@ fn join_digits(items: &[Item], len: usize, octets: &mut Vec<u8>) -> Result<(), N
         if text.len() / 2 > len - octets.len() {
             return Err(NarrowFailing::of(Cause::BadGeneric));
         }
-        push_digits(text, octets)?;
+        if !push_octets_of_hex(text, octets)? {
+            return Err(NarrowFailing::of(Cause::BadGeneric));
+        }
     }
     if octets.len() < len {
         return Err(NarrowFailing::of(Cause::BadGeneric));
     }
     Ok(())
-}
-
-/// Appends the octets that hexadecimal digits stand for.
-fn push_digits(text: &[u8], octets: &mut Vec<u8>) -> Result<(), NarrowFailing>
-    requires few { length octets.old.items ≤ LONGEST_DATA }
-    requires fits { length text.now ≤ 131071 }
-    ensures found { OnOk result (Appends (λ front. decode_of text.now ≡ Ok front)
-        (λ front. front) octets.old.items octets.new.items) }
-    ensures fault { IfErr result (IfFault (NoValue Fault.BadGeneric
-        (λ front. decode_of text.now ≡ Ok front))) }
-{
-    let before = octets.len();
-    octets.resize(before + text.len() / 2, 0)?;
-    let (_, room) = octets.as_mut_slice().split_at_mut(before);
-    decode_to_slice(text, room).map_err(|_| NarrowFailing::of(Cause::BadGeneric))
 }

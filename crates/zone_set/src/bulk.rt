@@ -1,4 +1,4 @@
-ghost use Rattle.std.specs.Prelude.{◌≡◌, ◌-◌, ◌≤◌, ◌∷◌, length, map, take, IfSome, IsTrue};
+ghost use Rattle.std.specs.Prelude.{◌≡◌, ◌-◌, ◌≤◌, ◌∷◌, drop, length, map, take, IfSome, IsTrue};
 ghost use Rattle.std.specs.declared.cmp.Ordering.TheVariants.{Greater, Less};
 ghost use Rattle.std.specs.List.{dedup, AllByRecursion};
 ghost use Rattle.std.specs.List.Sorted.{IsPermutation};
@@ -10,7 +10,7 @@ ghost use Rattle.zone_set.specs.Zone.{AreCompatible, SameRecords};
 use crate::ahead::{AHEAD, ask_neighbours, ask_run};
 use crate::entry::Entry;
 use crate::hint::told_front;
-use crate::keys::{FEW, first_digit, first_run, sort_all, sort_by_hint, sort_run};
+use crate::keys::{FEW, first_digit, first_run, sort_all, sort_by_hint, sort_by_record, sort_run};
 use crate::offered::canonical_order;
 use crate::put::has_other_ttl;
 use crate::sets::is_other_soa;
@@ -80,8 +80,8 @@ fn put_runs(class: Class, octets: &[u8], entries: &mut [Entry], front: usize) ->
             }
             seen = start.saturating_add(AHEAD);
         }
-        sort_many(&mut entries[start..start + len], octets, front, hint);
-        if !put_run(class, octets, &mut entries[..start + len], start) {
+        let run = Run { start, hint, front };
+        if !put_run(class, octets, &mut entries[..start + len], run) {
             return false;
         }
         start += len;
@@ -89,20 +89,63 @@ fn put_runs(class: Class, octets: &[u8], entries: &mut [Entry], front: usize) ->
     true
 }
 
-/// Sorts entries of one hint by keys, where they are more than a few.
-fn sort_many(run: &mut [Entry], octets: &[u8], front: usize, hint: u64)
-    requires { map (with_hint hint) run.old ≡ run.old }
-    ensures { IsPermutation run.old run.new }
+/// Where entries of one hint begin that go to the end, the hint, and where the types stand in keys of
+/// their records.
+#[derive(Clone, Copy)]
+struct Run {
+    start: usize,
+    hint: u64,
+    front: usize,
+}
+
+/// Sorts a run of entries, and tells whether each record of those before it and of its own stands
+/// before the next one, and both may stand in one zone, where this holds of those before it.
+fn put_run(class: Class, octets: &[u8], entries: &mut [Entry], run: Run) -> bool
+    ghost base: { Labels }
+    requires each { AllByRecursion (IsEntry base class octets.now) entries.old }
+    requires within { run.start ≤ length entries.old }
+    requires same { map (with_hint run.hint) (drop run.start entries.old) ≡ drop run.start entries.old }
+    ensures moved { IsPermutation entries.old entries.new }
+    ensures next { IsTrue result
+        → AreNeighbours (all_records class octets.now (take run.start entries.old))
+        → AreNeighbours (all_records class octets.now entries.new) }
 {
-    if run.len() > FEW {
-        sort_run(run, octets, front, hint, first_digit(hint, front, 0));
+    if entries.len() - run.start > FEW {
+        put_many(class, octets, entries, run)
+    } else {
+        put_few(class, octets, entries, run.start)
+    }
+}
+
+/// `put_run` by keys, for more than a few. None is put among those before it: with a wrong key that
+/// would be done again and again. Those that are out of order after their keys are sorted by their
+/// records.
+fn put_many(class: Class, octets: &[u8], entries: &mut [Entry], run: Run) -> bool
+    ghost base: { Labels }
+    requires each { AllByRecursion (IsEntry base class octets.now) entries.old }
+    requires within { run.start ≤ length entries.old }
+    requires same { map (with_hint run.hint) (drop run.start entries.old) ≡ drop run.start entries.old }
+    ensures moved { IsPermutation entries.old entries.new }
+    ensures next { IsTrue result
+        → AreNeighbours (all_records class octets.now (take run.start entries.old))
+        → AreNeighbours (all_records class octets.now entries.new) }
+{
+    let Run { start, hint, front } = run;
+    let (digit, last) = (first_digit(hint, front, 0), start.saturating_sub(1));
+    sort_run(&mut entries[start..], octets, front, hint, digit);
+    match neighbour_order(class, octets, &entries[last..]) {
+        Some(Ordering::Less) => true,
+        Some(Ordering::Greater) => {
+            sort_by_record(&mut entries[start..], octets);
+            are_neighbours(class, octets, &entries[last..])
+        }
+        Some(Ordering::Equal) | None => false,
     }
 }
 
 /// Puts entries from a place on among those before them, one after another, as long as all stand in
-/// order and can stand in one zone, and tells whether they do. Few are sorted so, and more were
-/// sorted before: what stands where it should costs one comparison.
-fn put_run(class: Class, octets: &[u8], entries: &mut [Entry], start: usize) -> bool
+/// order and can stand in one zone, and tells whether they do. So a few are sorted.
+fn put_few(class: Class, octets: &[u8], entries: &mut [Entry], start: usize) -> bool
     ghost base: { Labels }
     requires each { AllByRecursion (IsEntry base class octets.now) entries.old }
     requires within { start ≤ length entries.old }
@@ -113,9 +156,6 @@ fn put_run(class: Class, octets: &[u8], entries: &mut [Entry], start: usize) -> 
 {
     let mut put = start;
     while put < entries.len() {
-        if (entries.len() - put) % AHEAD == 0 && !ask_run(octets, &entries[put..]) {
-            return false;
-        }
         put += 1;
         if !put_last(class, octets, &mut entries[..put]) {
             return false;
@@ -159,21 +199,34 @@ pub(crate) fn are_neighbours(class: Class, octets: &[u8], entries: &[Entry]) -> 
     requires { AllByRecursion (IsEntry base class octets.now) entries.now }
     ensures { IsTrue result → AreNeighbours (all_records class octets.now entries.now) }
 {
+    neighbour_order(class, octets, entries) == Some(Ordering::Less)
+}
+
+/// `Less` where each entry's record stands before the next one's, and both may stand in one zone.
+/// Else how the first two lie of which this doesn't hold. `None`: they can't stand in one zone, or a
+/// record isn't where its entry says.
+fn neighbour_order(class: Class, octets: &[u8], entries: &[Entry]) -> Option<Ordering>
+    ghost base: { Labels }
+    requires { AllByRecursion (IsEntry base class octets.now) entries.now }
+    ensures { IfSome result (λ order. order ≡ Less
+        → AreNeighbours (all_records class octets.now entries.now)) }
+{
     let Some((first, rest)) = entries.split_first() else {
-        return true;
+        return Some(Ordering::Less);
     };
     let (mut last, mut left) = (*first, rest);
     while let Some((next, after)) = left.split_first() {
         if left.len() % AHEAD == 0 && !ask_run(octets, left) {
-            return false;
+            return None;
         }
-        if standing(class, octets, last, *next) != Some(Ordering::Less) {
-            return false;
+        match standing(class, octets, last, *next) {
+            Some(Ordering::Less) => {}
+            other => return other,
         }
         last = *next;
         left = after;
     }
-    true
+    Some(Ordering::Less)
 }
 
 /// How the records of two entries stand, where both may stand in one zone.

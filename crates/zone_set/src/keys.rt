@@ -5,8 +5,10 @@ ghost use Rattle.zone_set.specs.Machine.Bulk.{with_hint};
 use crate::ahead::{AHEAD, ask_run};
 use crate::entry::Entry;
 use crate::hint::first_untold;
-use crate::owner::{first_label, past_far, shared_end};
-use crate::tie::{StoredParts, stored_at, tie_order};
+use crate::owner::{first_label, owner_order, past_far, shared_end};
+use crate::repeats::digest;
+use crate::tie::{StoredParts, span, stored_at, tie_order};
+use std::cmp::Ordering;
 
 /// How many entries are at most sorted by their octets alone.
 pub(crate) const FEW: usize = 8;
@@ -17,6 +19,13 @@ const FAR: usize = 320;
 /// Below so many octets of an owner the digits that all share aren't looked for: keys soon pass them.
 const SHORT: usize = 48;
 
+/// How often a run is sorted by one of its records, one sort inside another.
+const PIVOTS: usize = 16;
+
+/// The place of records that have the owner of the one that they are compared with. An owner has at
+/// most 255 octets.
+const SAME: u64 = 256;
+
 /// Sorts entries by their hints.
 pub(crate) fn sort_by_hint(entries: &mut [Entry])
     ensures { IsPermutation entries.old entries.new }
@@ -24,24 +33,37 @@ pub(crate) fn sort_by_hint(entries: &mut [Entry])
     entries.sort_unstable_by(|a, b| a.hint.cmp(&b.hint));
 }
 
+/// Sorts entries of one hint by their records.
+pub(crate) fn sort_by_record(entries: &mut [Entry], octets: &[u8])
+    ensures { IsPermutation entries.old entries.new }
+{
+    entries.sort_unstable_by(|a, b| tie_order(octets, a.at, b.at));
+}
+
 /// Sorts all entries by their hints and then by their records.
 pub(crate) fn sort_all(entries: &mut [Entry], octets: &[u8], front: usize)
     ensures { IsPermutation entries.old entries.new }
 {
-    sort(entries, octets, front, 0);
+    sort(entries, octets, front, 0, PIVOTS);
 }
 
 /// Sorts entries by their hints, and then each run of one hint. Those of one hint have the same
 /// digits before this one.
 #[cycle(keys)]
-fn sort(entries: &mut [Entry], octets: &[u8], front: usize, digit: usize)
+fn sort(entries: &mut [Entry], octets: &[u8], front: usize, digit: usize, pivots: usize)
     ensures { IsPermutation entries.old entries.new }
 {
     sort_by_hint(entries);
     let mut start = 0;
     while let Some((hint, len)) = first_run(&entries[start..]) {
+        let is_most = digit > 0 && len > FEW && len > entries.len() - entries.len() / 4;
         let run = &mut entries[start..start + len];
-        sort_run(run, octets, front, hint, first_digit(hint, front, digit));
+        let first = first_digit(hint, front, digit);
+        if is_most {
+            sort_by_one(run, octets, front, hint, first, pivots);
+        } else {
+            sort_keyed(run, octets, front, hint, first, pivots);
+        }
         start += len;
     }
 }
@@ -80,12 +102,27 @@ fn run_len(entries: &[Entry], hint: u64) -> usize
     len
 }
 
+/// Sorts entries of one hint, whose records have the same digits before this one.
+pub(crate) fn sort_run(run: &mut [Entry], octets: &[u8], front: usize, hint: u64, digit: usize)
+    requires { map (with_hint hint) run.old ≡ run.old }
+    ensures { IsPermutation run.old run.new }
+{
+    sort_keyed(run, octets, front, hint, digit, PIVOTS);
+}
+
 /// Sorts entries of one hint, whose records have the same digits before this one, by keys which
 /// stand in its place meanwhile: by the digits of their records that come next. That they ascend is
 /// seen later: of this it is known only that they are the same, and only how soon a zone is made
 /// rests on the keys.
 #[cycle(keys)]
-pub(crate) fn sort_run(run: &mut [Entry], octets: &[u8], front: usize, hint: u64, digit: usize)
+fn sort_keyed(
+    run: &mut [Entry],
+    octets: &[u8],
+    front: usize,
+    hint: u64,
+    digit: usize,
+    pivots: usize,
+)
     requires { map (with_hint hint) run.old ≡ run.old }
     ensures { IsPermutation run.old run.new }
 {
@@ -93,7 +130,7 @@ pub(crate) fn sort_run(run: &mut [Entry], octets: &[u8], front: usize, hint: u64
         return;
     }
     if run.len() <= FEW || digit > FAR {
-        run.sort_unstable_by(|a, b| tie_order(octets, a.at, b.at));
+        sort_by_record(run, octets);
         return;
     }
     // Nor are keys made where all are equal.
@@ -102,8 +139,106 @@ pub(crate) fn sort_run(run: &mut [Entry], octets: &[u8], front: usize, hint: u64
     }
     let digit = digit.max(shared_digits(run, octets, front, digit));
     set_keys(run, octets, front, digit);
-    sort(run, octets, front, digit.saturating_add(8));
+    sort(run, octets, front, digit.saturating_add(8), pivots);
     set_hint(run, hint);
+}
+
+/// Sorts entries of one hint, most of those that a key was to part. Another key would part as few, if
+/// their owners share long ends and one or two leave at each label. So they are sorted by how their
+/// owners lie to one of them, and by how much of its end they share: that parts them at all labels of
+/// that one.
+#[cycle(keys)]
+fn sort_by_one(
+    run: &mut [Entry],
+    octets: &[u8],
+    front: usize,
+    hint: u64,
+    digit: usize,
+    pivots: usize,
+)
+    requires { map (with_hint hint) run.old ≡ run.old }
+    ensures { IsPermutation run.old run.new }
+{
+    let Some(fewer) = pivots.checked_sub(1) else {
+        sort_keyed(run, octets, front, hint, digit, pivots);
+        return;
+    };
+    let one = pivot_of(run, octets);
+    if one.len() < SHORT {
+        sort_keyed(run, octets, front, hint, digit, pivots);
+        return;
+    }
+    set_places(run, octets, one);
+    sort_places(run, octets, front, one.len(), fewer);
+    set_hint(run, hint);
+}
+
+/// Sorts entries by their places to an owner of so many octets, and then each run of one place.
+#[cycle(keys)]
+fn sort_places(entries: &mut [Entry], octets: &[u8], front: usize, len_of_one: usize, pivots: usize)
+    ensures { IsPermutation entries.old entries.new }
+{
+    sort_by_hint(entries);
+    let mut start = 0;
+    while let Some((place, len)) = first_run(&entries[start..]) {
+        let digit = match place.cmp(&SAME) {
+            Ordering::Less => (place as usize).saturating_sub(1),
+            Ordering::Equal => front.max(len_of_one),
+            Ordering::Greater => (2 * SAME).saturating_sub(place).saturating_sub(1) as usize,
+        };
+        let run = &mut entries[start..start + len];
+        sort_keyed(run, octets, front, place, digit, pivots);
+        start += len;
+    }
+}
+
+/// The owner of a record of a run, drawn by the digests of some, so that who writes a zone can't choose
+/// it easily.
+fn pivot_of<'z>(run: &[Entry], octets: &'z [u8]) -> &'z [u8] {
+    let (mut drawn, mut left) = (0u64, run);
+    let step = run.len() / FEW + 1;
+    while let Some((first, _)) = left.split_first() {
+        drawn = digest(drawn, span(octets, first.at));
+        left = match left.split_at_checked(step) {
+            Some((_, after)) => after,
+            None => break,
+        };
+    }
+    match run.get((drawn >> 33) as usize % run.len().max(1)) {
+        Some(entry) => match stored_at(octets, entry.at) {
+            Some(stored) => stored.owner,
+            None => &octets[..0],
+        },
+        None => &octets[..0],
+    }
+}
+
+/// Gives each entry its place to an owner, in place of the one hint that all have.
+fn set_places(run: &mut [Entry], octets: &[u8], one: &[u8])
+    ensures { map (λ e. e.at) run.new ≡ map (λ e. e.at) run.old }
+{
+    let mut next = 0;
+    while next < run.len() {
+        if next % AHEAD == 0 && !ask_run(octets, &run[next..]) {
+            return;
+        }
+        run[next].hint = place_to(octets, run[next].at, one);
+        next += 1;
+    }
+}
+
+/// How a record's owner lies to another, as a number that ascends with owners: those before it by how
+/// many octets they share with its end, and those after it the other way round.
+fn place_to(octets: &[u8], at: usize, one: &[u8]) -> u64 {
+    let Some(stored) = stored_at(octets, at) else {
+        return 0;
+    };
+    let shared = shared_end(one, stored.owner).len() as u64;
+    match owner_order(stored.owner, one) {
+        Ordering::Less => shared,
+        Ordering::Equal => SAME,
+        Ordering::Greater => (2 * SAME).saturating_sub(shared),
+    }
 }
 
 /// How many digits of their owners all records of a run have in common, or fewer. It isn't looked

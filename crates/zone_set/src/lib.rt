@@ -27,6 +27,7 @@ mod zone;
 
 pub use list::ZoneList;
 pub use messages::message_len;
+pub use offered::canonical_order;
 pub use records::Records;
 pub use sets::ZoneBuilder;
 pub use unordered::UnorderedRecords;

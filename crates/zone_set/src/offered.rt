@@ -65,7 +65,7 @@ impl<'a, 'z> Sought<Entry> for Offered<'a, 'z> {
 }
 
 /// How records of one class lie in canonical order.
-pub(crate) fn canonical_order(rr: &RrRef<'_>, other: &RrRef<'_>) -> Ordering
+pub fn canonical_order(rr: &RrRef<'_>, other: &RrRef<'_>) -> Ordering
     requires { rr.now.class ≡ other.now.class }
     ensures { result ≡ canonical_cmp (record_of rr.now) (record_of other.now) }
 {

@@ -97,8 +97,8 @@ fn number(octets: &[u8], entries: &mut [Entry]) -> usize {
     number.saturating_add(1)
 }
 
-/// Whether it may be that half of the octets or more keep repeats. A record counts as new where its
-/// hint wasn't seen or, if it was, its octets weren't: so each of them counts at most twice.
+/// Whether it may be that half of the octets or more keep repeats. A record counts as new where no
+/// digest like its own was seen: so none of a record's repeats counts.
 ///
 /// # Errors
 ///
@@ -112,7 +112,7 @@ pub(crate) fn may_be_many(
     let (half, mut new_octets) = (octets.len() / 2, 0usize);
     for entry in entries {
         let record = span(octets, entry.at);
-        if seen.insert(mixed(entry.hint, 0)) || seen.insert(digest(entry.hint, record)) {
+        if seen.insert(digest(entry.hint, record)) {
             new_octets = new_octets.saturating_add(record.len());
             if new_octets > half {
                 return Ok(false);
@@ -123,7 +123,7 @@ pub(crate) fn may_be_many(
 }
 
 /// A number of octets, of which others may have the same one.
-fn digest(hint: u64, octets: &[u8]) -> u64 {
+pub(crate) fn digest(hint: u64, octets: &[u8]) -> u64 {
     let mut digest = mixed(hint, octets.len() as u64);
     let mut left = octets;
     while let Some((eight, rest)) = left.split_first_chunk::<8>() {

@@ -21,7 +21,7 @@ no_base64 text octets none is =
     let same : octets ≡ [] = encoded_once octets [] is.each tt (sym empty ∙ sym (encode_of-nil standard)) in
     omega (arith, is.some, ap length same)
 
-some_octet : (text octets : List ℕ) → 0 < length text → text ≡ encode_of standard octets → 0 < length octets
+pub some_octet : (text octets : List ℕ) → 0 < length text → text ≡ encode_of standard octets → 0 < length octets
 some_octet text [] some encoded = absurd (omega (arith, some, ap length (encoded ∙ encode_of-nil standard)))
 some_octet text (octet ∷ octets) some encoded = omega arith
 

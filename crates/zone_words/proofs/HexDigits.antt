@@ -1,5 +1,7 @@
 -- Hexadecimal digits stand for one list of octets.
-use Rattle.zone_words.proofs.Common.{AppendsStated, IsHex, List, NothingStated, TooLong, WordsFault, [], arith, decode_of-ok, decode_of-same, length, ℕ, ◌*◌, ◌++◌, ◌/◌, ◌<◌, ◌∷◌, ◌≡◌, ◌≤◌}
+use Rattle.hex.specs.Hex.{decode_of}
+use Rattle.zone_rdata.specs.Appended.{Appends}
+use Rattle.zone_words.proofs.Common.{AppendsStated, IsHex, List, NothingStated, Ok, TooLong, WordsFault, [], arith, decode_of-ok, decode_of-same, length, ℕ, ◌*◌, ◌++◌, ◌/◌, ◌<◌, ◌∷◌, ◌≡◌, ◌≤◌}
 use Rattle.zone_words.proofs.LengthsBefore.{appended_after_length}
 use Rattle.zone_words.specs.Kinds.AfterLength.{FailsAfterLength, StatesAfterLength, of_no_octets, of_too_many}
 use Rattle.zone_words.specs.declared.fault.WordsFault.TheVariants.{NoHexadecimal}
@@ -14,6 +16,14 @@ no_digits text octets none is = omega (arith, is.some, twice text octets is)
 
 pub one_hex : (text a b : List ℕ) → IsHex text a → IsHex text b → a ≡ b
 one_hex text a b x y = decode_of-same text a b x.digits y.digits
+
+-- the octets of some digits
+pub digits_appended : (text old new : List ℕ) → 0 < length text → Appends (λ octets. decode_of text ≡ Ok octets) (λ octets. octets) old new → AppendsStated (IsHex text) old new
+digits_appended text old new some grown = record {
+  octets = grown.value;
+  stated = record { some = omega (arith, some, (decode_of-ok text grown.value grown.stated).2); digits = grown.stated };
+  written = grown.written;
+}
 
 -- ---- after their length
 

@@ -1,14 +1,30 @@
 -- Pairs of hexadecimal digits parted by hyphens, read one after the other.
-use Rattle.zone_words.proofs.Common.{AllZip, AppendsStated, List, [], ap, append_assoc, arith, decode_sized-ok, join_with_byte, length, length-append, refl, subst, sym, ℕ, ◌*◌, ◌++◌, ◌+◌, ◌<◌, ◌∙◌, ◌∷◌, ◌≡◌}
+use Rattle.hex.proofs.HexLemmas.{decode_sized-twice}
+use Rattle.hex.specs.Hex.{decode_of}
+use Rattle.std.specs.Prelude.{Ok}
+use Rattle.zone_words.proofs.Common.{AllZip, AppendsStated, List, [], ap, append_assoc, arith, decode_of-ok, decode_sized-ok, join_with_byte, length, length-append, refl, subst, sym, ℕ, ◌*◌, ◌++◌, ◌+◌, ◌<◌, ◌∙◌, ◌∷◌, ◌≡◌}
 use Rattle.zone_rdata.proofs.Octets.Sent.{append_same}
+use Rattle.zone_rdata.specs.Appended.{Appends}
 use Rattle.zone_words.specs.Kinds.Eui.{IsPair, StatesEui}
-use Rattle.zone_words.specs.Machine.Pairs.{BeginsWithPair, IsCutPair}
+use Rattle.zone_words.specs.Machine.Pairs.{AppendsPair, BeginsWithPair, IsCutPair}
 
 pub pair_length : (text : List ℕ) (octet : ℕ) → IsPair text octet → length text ≡ 2
 pair_length text octet is = decode_sized-ok text 1 (octet ∷ []) is
 
 pub one_pair : (text : List ℕ) (a b : ℕ) → IsPair text a → IsPair text b → a ≡ b
 one_pair text a b x y = cc (sym x ∙ y)
+
+-- two digits that are read are a pair, and others are none
+pair_of : (text octets old new : List ℕ) → length text ≡ 2 → decode_of text ≡ Ok octets → new ≡ old ++ octets → AppendsPair text old new
+pair_of text [] old new two is grown = absurd (omega (arith, two, (decode_of-ok text [] is).2))
+pair_of text (c ∷ []) old new two is grown = record { octet = c; is = decode_sized-twice text 1 two ∙ is; written = grown }
+pair_of text (c ∷ d ∷ more) old new two is grown = absurd (omega (arith, two, (decode_of-ok text (c ∷ d ∷ more) is).2))
+
+pub pair_pushed : (text old new : List ℕ) → length text ≡ 2 → Appends (λ octets. decode_of text ≡ Ok octets) (λ octets. octets) old new → AppendsPair text old new
+pair_pushed text old new two more = pair_of text more.value old new two more.stated more.written
+
+pub no_pair : (text : List ℕ) → ((octets : List ℕ) → decode_of text ≡ Ok octets → ⊥) → (octet : ℕ) → IsPair text octet → ⊥
+no_pair text none octet is = none (octet ∷ []) (sym (decode_sized-twice text 1 (pair_length text octet is)) ∙ is)
 
 -- ---- texts of pairs
 
@@ -58,6 +74,16 @@ take_first text pair rest (n ∷ m ∷ whole) octet (p ∷ q ∷ pairs) is cut e
       are = record { pairs = q ∷ pairs; each = each.1; parted = same.1; some = omega arith };
       parted = ap (λ o. o ∷ m ∷ whole) (sym same.0);
     }
+
+-- what stands before the first hyphen is a pair
+front_pair : (pair after rest whole : List ℕ) (pairs : List (List ℕ)) → length pair ≡ 2 → rest ≡ pair ++ 45 ∷ after → AllZip IsPair pairs whole → rest ≡ join_with_byte 45 pairs → 0 < length pairs → (octet : ℕ) × IsPair pair octet
+front_pair pair after rest whole [] two cut each parted some = absurd (omega arith)
+front_pair pair after rest [] (p ∷ pairs) two cut each parted some = absurd each
+front_pair pair after rest (n ∷ whole) (p ∷ []) two cut each parted some =
+    absurd (omega (arith, pair_length p n each.0, two, ap length (sym parted ∙ cut), length-append pair (45 ∷ after)))
+front_pair pair after rest (n ∷ whole) (p ∷ q ∷ pairs) two cut each parted some =
+    let parts = append_same pair p (45 ∷ after) (45 ∷ join_with_byte 45 (q ∷ pairs)) (omega (arith, two, pair_length p n each.0)) (sym cut ∙ parted) in
+    (n, rw (sym parts.0) at each.0)
 
 -- a text that isn't cut is a pair alone
 pub take_last : (text whole : List ℕ) (pairs : List (List ℕ)) → (BeginsWithPair text → ⊥) → ((octet : ℕ) → IsPair text octet → ⊥) → AllZip IsPair pairs whole → text ≡ join_with_byte 45 pairs → 0 < length pairs → ⊥
@@ -114,6 +140,21 @@ pairs_more text rest after old out next octet r cut pushed = record {
       let first = first_of rest after left.0 octet cut left.1 in
       (first.more, first.are, left.2 ∙ ap (λ o. r.octets ++ o) first.parted ∙ sym (append_assoc r.octets (octet ∷ []) first.more));
 }
+
+pub pair_read : (text rest pair after old out next : List ℕ) → rest ≡ pair ++ 45 ∷ after → ReadsPairs text rest old out → AppendsPair pair out next → ReadsPairs text after old next
+pair_read text rest pair after old out next cut r pushed =
+    pairs_more text rest after old out next pushed.octet r (record { pair = pair; is = pushed.is; parted = cut }) pushed.written
+
+pub pair_unread : (count : ℕ) (text rest pair after old out : List ℕ) → 0 < count → length pair ≡ 2 → rest ≡ pair ++ 45 ∷ after → ReadsPairs text rest old out → ((octet : ℕ) → IsPair pair octet → ⊥) → (octets : List ℕ) → StatesEui count text octets → ⊥
+pair_unread count text rest pair after old out some two cut r none octets is =
+    let left = r.comes octets (are_pairs count text octets some is) in
+    let first = front_pair pair after rest left.0 left.1.pairs two cut left.1.each left.1.parted left.1.some in
+    none first.0 first.1
+
+pub last_unread : (count : ℕ) (text rest old out : List ℕ) → 0 < count → (BeginsWithPair rest → ⊥) → ReadsPairs text rest old out → ((octet : ℕ) → IsPair rest octet → ⊥) → (octets : List ℕ) → StatesEui count text octets → ⊥
+last_unread count text rest old out some ends r none octets is =
+    let left = r.comes octets (are_pairs count text octets some is) in
+    take_last rest left.0 left.1.pairs ends none left.1.each left.1.parted left.1.some
 
 pub pairs_end : (count : ℕ) (text rest old out next : List ℕ) (octet : ℕ) → length text + 1 ≡ 3 * count → ReadsPairs text rest old out → IsPair rest octet → next ≡ out ++ octet ∷ [] → AppendsStated (StatesEui count text) old next
 pairs_end count text rest old out next octet len r is pushed =

@@ -26,6 +26,7 @@ mod JoinedFaults
 mod JoinedRefusals
 mod Base32Digits
 mod Base64Texts
+mod Base64Groups
 mod HexDigits
 mod JoinedItems
 mod LengthsBefore

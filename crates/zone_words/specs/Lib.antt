@@ -13,6 +13,7 @@ pub mod PrintedData
 pub mod Machine
 pub mod Written
 pub mod Rewriting
+pub mod Stopped
 pub mod Origin
 pub mod Inherited
 pub mod Entry

@@ -12,6 +12,7 @@ pub mod FedWriting
 pub mod Further
 pub mod Turn
 pub mod Pairs
+pub mod Groups
 pub mod Parameters
 pub mod PrintedParameters
 pub mod Stated

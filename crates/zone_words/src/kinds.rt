@@ -2,6 +2,7 @@
 //! printed.
 mod address;
 mod base32_hex;
+mod base64_groups;
 mod base64_text;
 mod bitmap;
 mod eui;

@@ -4,7 +4,8 @@ use std::test::Fail;
 use test_support::{check_octets, check_same};
 use zone_rdata::{
     Item, Row, decimal_of, four_groups_of, ipv4_octets_of, ipv6_octets_of, is_word, number_of_word,
-    push_decimal, push_hex, push_ipv4, push_ipv6, push_string, push_string_text, row_named, row_of,
+    push_decimal, push_hex, push_ipv4, push_ipv6, push_octets_of_hex, push_string,
+    push_string_text, row_named, row_of,
 };
 
 /// A metal by its number and its sign.
@@ -56,6 +57,65 @@ fn octets_in_hexadecimal_digits(rt: HostRuntime) -> Result<(), Fail> {
         &out,
         b"0fa9ffffffffffffffffffffffffffffffffffffffffffffffffffffffffffffffffff",
     )
+}
+
+/// That digits are read as octets, after one that is there.
+fn check_read(rt: HostRuntime, digits: &[u8], octets: &[u8]) -> Result<(), Fail> {
+    let mut out = Vec::new(rt.alloc());
+    out.push(b'<')?;
+    check_same(
+        "digits of octets",
+        push_octets_of_hex(digits, &mut out)?,
+        true,
+    )?;
+    check_octets("the octet before", &out[..1], b"<")?;
+    check_octets("the octets of digits", &out[1..], octets)
+}
+
+/// RFC 4648 8, in either letter case and in both. Of 66 digits the last two are read by themselves.
+#[test]
+fn octets_of_hexadecimal_digits(rt: HostRuntime) -> Result<(), Fail> {
+    let lower = b"666f6f626172666f6f626172666f6f626172666f6f626172666f6f626172666f6f";
+    let capitals = b"666F6F626172666F6F626172666F6F626172666F6F626172666F6F626172666F6F";
+    let both = b"666F6f626172666f6F626172666f6f626172666f6F626172666f6f626172666F6f";
+    check_read(rt, b"", b"")?;
+    check_read(rt, b"0fA9", b"\x0f\xa9")?;
+    check_read(rt, lower, b"foobarfoobarfoobarfoobarfoobarfoo")?;
+    check_read(rt, capitals, b"foobarfoobarfoobarfoobarfoobarfoo")?;
+    check_read(rt, both, b"foobarfoobarfoobarfoobarfoobarfoo")
+}
+
+/// That a text isn't the digits of octets, and nothing is appended.
+fn check_unread(rt: HostRuntime, text: &[u8]) -> Result<(), Fail> {
+    let mut out = Vec::new(rt.alloc());
+    out.push(b'<')?;
+    check_same(
+        "no digits of octets",
+        push_octets_of_hex(text, &mut out)?,
+        false,
+    )?;
+    check_octets("nothing is appended", &out, b"<")
+}
+
+/// An odd number of digits, and the characters beside them in ASCII.
+#[test]
+fn texts_that_are_no_hexadecimal_digits(rt: HostRuntime) -> Result<(), Fail> {
+    check_unread(rt, b"0")?;
+    check_unread(
+        rt,
+        b"00000000000000000000000000000000000000000000000000000000000000000",
+    )?;
+    check_unread(
+        rt,
+        b"0000000000000000000000000000000000000000000000000000000000000000g0",
+    )?;
+    check_unread(rt, b"0/")?;
+    check_unread(rt, b":0")?;
+    check_unread(rt, b"@0")?;
+    check_unread(rt, b"0G")?;
+    check_unread(rt, b"`0")?;
+    check_unread(rt, b"\x10\x19")?;
+    check_unread(rt, b"\xc1\xb0")
 }
 
 /// RFC 2181 8.

@@ -56,7 +56,7 @@ pub generic_whole : (octets : List ℕ) → generic_head octets ++ encode_lower 
 unfolding encode_with
 generic_whole octets = grind (arith, append_assoc)
 
-encode_append : (front rest : List ℕ) → encode_lower (front ++ rest) ≡ encode_lower front ++ encode_lower rest
+pub encode_append : (front rest : List ℕ) → encode_lower (front ++ rest) ≡ encode_lower front ++ encode_lower rest
 unfolding encode_with
 encode_append [] rest = refl
 encode_append (c ∷ front) rest = cc (encode_append front rest)

@@ -62,7 +62,7 @@ fn octets_of_digits(first: u8, second: u8, third: u8, last: u8) -> Option<[u8; 2
 
 /// The octet of two hexadecimal digits in either case. `None`: one of them is none.
 #[inline(always)]
-fn octet_of_pair(high: u8, low: u8) -> Option<u8>
+pub(crate) fn octet_of_pair(high: u8, low: u8) -> Option<u8>
     ensures found { IfSome result (λ octet. (at : ℕ) → pair_value high low at ≡ Ok octet) }
     ensures none { IfNone result ((at octet : ℕ) → pair_value high low at ≢ Ok octet) }
 {

@@ -1,5 +1,6 @@
 -- Entries that are looked at run after run, each run as soon as it is sorted.
-use Rattle.zone_set.proofs.Common.{common_steps, AllByRecursion, AllByRecursion-back, AllByRecursion-front, AreNeighbours, Entry, List, Record, [], ap, append-nil, arith, drop, length, length-drop, length-take-le, map, refl, suc, sym, take, take-append-drop, take-length, zero, ℕ, ◌+◌, ◌-◌, ◌∙◌, ◌∷◌, ◌≡◌, ◌≤◌, StandNext, nil_from_length, slice_index_or, ◌++◌, ◌<◌}
+use Rattle.zone_set.proofs.Common.{common_steps, AllByRecursion, AllByRecursion-back, AllByRecursion-front, AreNeighbours, Entry, List, Record, [], ap, append-nil, arith, drop, length, length-drop, length-take-le, map, refl, subst, suc, sym, take, take-append-drop, take-length, zero, ℕ, ◌+◌, ◌-◌, ◌∙◌, ◌∷◌, ◌≡◌, ◌≤◌, StandNext, nil_from_length, slice_index_or, ◌++◌, ◌<◌}
+use Rattle.std.proofs.lemmas.List.{drop-take}
 use Rattle.std.specs.Prelude.{slice_set}
 use native.Mathlib.Numerals.{unary_clauses}
 
@@ -26,6 +27,12 @@ take_rest k xs = ap (λ n. take n (drop k xs)) (sym (length-drop k xs)) ∙ take
 -- where none is left, all came
 pub take_whole : {X : Type 0} (k : ℕ) (xs : List X) → take (length xs - k) (drop k xs) ≡ [] → take k xs ≡ xs
 take_whole k xs none = grind (arith, common_steps, take_rest, append-nil, take-append-drop)
+
+-- a run of those after a place, in the front that it ends
+pub run_alike : (f : Entry → Entry) (start len : ℕ) (es : List Entry) → map f (take len (take (length es - start) (drop start es))) ≡ take len (take (length es - start) (drop start es)) → map f (drop start (take (start + len) es)) ≡ drop start (take (start + len) es)
+run_alike f start len es same =
+    let front : take len (take (length es - start) (drop start es)) ≡ drop start (take (start + len) es) = ap (take len) (take_rest start es) ∙ sym (drop-take start len es) in
+    subst (λ l. map f l ≡ l) front same
 
 -- with two neighbours in each other's place
 abbrev changed : {X : Type 0} → ℕ → ℕ → List X → X → List X
@@ -57,6 +64,21 @@ module _ (f : Entry → Record) where
   -- the last stands alone
   pub last_stands : (at : ℕ) (es : List Entry) → at ≡ length es - 1 → AreNeighbours (map f (drop at es))
   last_stands at es is = one_stands (drop at es) (let left = length-drop at es in omega (arith, left, is))
+
+  joined_at : (n : ℕ) (es : List Entry) → AreNeighbours (map f (take (suc n) es)) → AreNeighbours (map f (drop n es)) → AreNeighbours (map f es)
+  joined_at zero es front back = back
+  joined_at (suc n) [] front back = tt
+  joined_at (suc n) (x ∷ []) front back = tt
+  joined_at (suc n) (x ∷ (y ∷ es)) front back = (front.0, joined_at n (y ∷ es) front.1 back)
+
+  -- those before a place, and those from the last of them on
+  pub AreNeighbours-joined : (start last : ℕ) (es : List Entry) → last ≡ start - 1 → AreNeighbours (map f (take start es)) → AreNeighbours (map f (drop last es)) → AreNeighbours (map f es)
+  AreNeighbours-joined zero last es is front back =
+      let none : last ≡ zero = omega (arith, is) in
+      subst (λ n. AreNeighbours (map f (drop n es))) none back
+  AreNeighbours-joined (suc n) last es is front back =
+      let one : last ≡ n = omega (arith, is) in
+      joined_at n es front (subst (λ m. AreNeighbours (map f (drop m es))) one back)
 
   put_between : (n : ℕ) (es : List Entry) (d : Entry) → suc n < length es → AreNeighbours (map f (take (suc n) es ++ drop (suc (suc n)) es)) → AreNeighbours (map f (drop (suc n) es)) → StandNext (f (slice_index_or es n d)) (f (slice_index_or es (suc n) d)) → AreNeighbours (map f es)
   put_between n [] d low others from next = tt

@@ -278,7 +278,7 @@ whole
 x. 60 IN SOA n.x. h.x. 1 2 3 4 5
 => 2
 --
-F46 BadOrigin: an origin is an absolute name or the word transfer; this one lacks the dot at its end
+F46 BadOrigin: an origin is an absolute name or the word transfer
 ";
 
 #[test]
@@ -347,7 +347,7 @@ digest . => digest . by SHA-384 in words
 digest --sha512 X. => digest x. by SHA-512 in words
 digest X. --generic => digest x. by SHA-384 in the generic form
 digest --generic transfer --sha512 => digest transfer by SHA-512 in the generic form
-verify x => 2 F46 BadOrigin: an origin is an absolute name or the word transfer; this one lacks the dot at its end
+verify x => 2 F46 BadOrigin: an origin is an absolute name or the word transfer
 digest @ => 2 F46 BadOrigin: an origin is an absolute name or the word transfer
  => clap
 verify => clap

@@ -5,8 +5,8 @@ use std::alloc::Global;
 use std::test::Fail;
 use test_support::{check_octets, check_same, push_words, roomy};
 use zone_engine::{
-    Form, OctetSlice, Verdict, Which, accepted_bytes, accepted_zone, accepted_zone_within,
-    compare_bytes,
+    CompareError, Form, OctetSlice, Verdict, Which, accepted_bytes, accepted_zone,
+    accepted_zone_within, compare_bytes,
 };
 use zone_name::Name;
 use zone_print::{OctetVec, push_zone_within, write_zone_within};
@@ -84,14 +84,14 @@ fn a_text_is_written_to_memory(rt: HostRuntime) -> Result<(), Fail> {
 fn octets_in_memory_are_compared(rt: HostRuntime) -> Result<(), Fail> {
     let root = Name::root();
     let form = Form::File(&root);
-    let verdict = compare_bytes(rt.alloc(), form, FILE, form, TEXT)?;
+    let verdict = compare_bytes(rt.alloc(), form, FILE, form, TEXT).map_err(CompareError::from)?;
     check_same("a file and its text", verdict, Verdict::Same)?;
-    let Err(error) = compare_bytes(rt.alloc(), form, FILE, form, b"a") else {
+    let Err((which, stop)) = compare_bytes(rt.alloc(), form, FILE, form, b"a") else {
         return Err(Fail::from("accepted"));
     };
-    check_same("the one that is refused", error.which, Which::Second)?;
+    check_same("the one that is refused", which, Which::Second)?;
     let mut shown = roomy(rt.alloc())?;
-    push_words(rt.alloc(), &mut shown, &error)?;
+    push_words(rt.alloc(), &mut shown, CompareError::from((which, stop)))?;
     let wanted = b"second: F7 UnknownType at line 1: the type word is missing or unknown";
     check_octets("the error as it is shown", &shown, wanted)
 }

@@ -78,16 +78,16 @@ explain . => explain .
 explain transfer => explain transfer
 compare X. p transfer q => compare x.p transferq
 compare transfer q X. p => compare transferq x.p
-normalise x => 2 F46 BadOrigin: an origin is an absolute name or the word transfer; this one lacks the dot at its end
+normalise x => 2 F46 BadOrigin: an origin is an absolute name or the word transfer
 normalise @ => 2 F46 BadOrigin: an origin is an absolute name or the word transfer
 normalise a.. => 2 F46 BadOrigin: an origin is an absolute name or the word transfer
-normalise Transfer => 2 F46 BadOrigin: an origin is an absolute name or the word transfer; this one lacks the dot at its end
-normalise \\@ => 2 F46 BadOrigin: an origin is an absolute name or the word transfer; this one lacks the dot at its end
+normalise Transfer => 2 F46 BadOrigin: an origin is an absolute name or the word transfer
+normalise \\@ => 2 F46 BadOrigin: an origin is an absolute name or the word transfer
 normalise  => 2 F46 BadOrigin: an origin is an absolute name or the word transfer
 explain @ => 2 F46 BadOrigin: an origin is an absolute name or the word transfer
-compare x p y. q => 2 F46 BadOrigin: an origin is an absolute name or the word transfer; this one lacks the dot at its end
-compare x. p y q => 2 F46 BadOrigin: an origin is an absolute name or the word transfer; this one lacks the dot at its end
-compare x p a.. q => 2 F46 BadOrigin: an origin is an absolute name or the word transfer; this one lacks the dot at its end
+compare x p y. q => 2 F46 BadOrigin: an origin is an absolute name or the word transfer
+compare x. p y q => 2 F46 BadOrigin: an origin is an absolute name or the word transfer
+compare x p a.. q => 2 F46 BadOrigin: an origin is an absolute name or the word transfer
 compare a.. p y q => 2 F46 BadOrigin: an origin is an absolute name or the word transfer
  => 2 clap
 sort x. => 2 clap
@@ -123,4 +123,22 @@ fn a_bad_origin_is_told(rt: HostRuntime) -> Result<(), Fail> {
     check_same("the status", status, 2)?;
     let wanted = b"F46 BadOrigin: an origin is an absolute name or the word transfer\n";
     check_octets("the line", &told, wanted)
+}
+
+#[test]
+fn a_fault_gives_its_text_and_status(rt: HostRuntime) -> Result<(), Fail> {
+    let fault = LineFault::BadOrigin;
+    let wanted = b"F46 BadOrigin: an origin is an absolute name or the word transfer";
+    check_octets("the text of a bad origin", fault.text().as_bytes(), wanted)?;
+    check_same("its status", fault.status(), 2)?;
+    let fault = LineFault::Clap(String::from_str(rt.alloc(), "usage")?);
+    check_octets("the text of clap", fault.text().as_bytes(), b"usage")?;
+    check_same("its status", fault.status(), 2)?;
+    let fault = LineFault::Memory;
+    check_octets(
+        "the text of memory",
+        fault.text().as_bytes(),
+        b"out of memory",
+    )?;
+    check_same("its status", fault.status(), 4)
 }

@@ -9,7 +9,9 @@ use test_support::{
     BROKEN, Question, Run, Supply, check_octets, check_same, had_memory, push_words, roomy, rooted,
 };
 use zone_command::{Order, run};
-use zone_engine::{Form, Verdict, compare, explain, explain_line, normalise, normalise_bytes};
+use zone_engine::{
+    CompareError, Form, Verdict, compare, explain, explain_line, normalise, normalise_bytes,
+};
 use zone_name::Name;
 use zone_rdata::Stop;
 
@@ -182,7 +184,9 @@ fn check_kept_under(
     let again = normalise_bytes(alloc, Form::File(&origin), text)?;
     check_octets("a canonical text is read back", &again, text)?;
     let (mut first, mut second) = (octets, text);
-    let verdict = compare(alloc, form, &mut first, Form::File(&origin), &mut second)?;
+    let verdict = compare(alloc, form, &mut first, Form::File(&origin), &mut second).map_err(
+        CompareError::from,
+    )?;
     check_same("an input and its text", verdict, Verdict::Same)
 }
 

@@ -1,12 +1,13 @@
 ghost use Rattle.base64.specs.Engines.{standard};
 ghost use Rattle.base64.specs.GeneralPurpose.{encode_of};
-ghost use Rattle.std.specs.Prelude.{◌≡◌, ◌++◌, map, IfErr, OnOk};
+ghost use Rattle.std.specs.Prelude.{◌≡◌, ◌<◌, ◌++◌, length, map, IfErr, OnOk};
 ghost use Rattle.zone_words.specs.DataItem.{raw_item};
 ghost use Rattle.zone_words.specs.Fault.{AppendsStated, IfFault, NothingStated};
 ghost use Rattle.zone_words.specs.Kinds.Base64.{FailsBase64, IsBase64, PrintsBase64, StatesBase64};
 ghost use Rattle.zone_words.specs.Printed.{IfNoData, NoItems, PrintsAll};
 ghost use Rattle.zone_words.specs.declared.fault.WordsFault.TheVariants.{NoBase64};
 
+use super::base64_groups::push_groups;
 use super::joined::joined_text;
 use crate::data_item::DataItem;
 use crate::fault::{WordsFailing, WordsFault};
@@ -40,6 +41,19 @@ pub(crate) fn push_decoded(text: &[u8], out: &mut Vec<u8>) -> Result<(), WordsFa
     if text.is_empty() {
         return Err(WordsFailing::Fault(WordsFault::NoBase64));
     }
+    let rest = push_groups(text, out)?;
+    if rest.is_empty() {
+        return Ok(());
+    }
+    push_last(rest, out)
+}
+
+/// As `push_decoded`, of the last groups.
+fn push_last(text: &[u8], out: &mut Vec<u8>) -> Result<(), WordsFailing>
+    requires { 0 < length text.now }
+    ensures states { OnOk result (AppendsStated (IsBase64 text.now) out.old.items out.new.items) }
+    ensures fault { IfErr result (IfFault (NothingStated NoBase64 (IsBase64 text.now))) }
+{
     match STANDARD.decode_vec(text, out) {
         Ok(()) => Ok(()),
         Err(DecodeAllocError::DecodeError(_)) => Err(WordsFailing::Fault(WordsFault::NoBase64)),

@@ -1,16 +1,15 @@
-ghost use Rattle.std.specs.Prelude.{◌≡◌, ◌≤◌, ◌<◌, ◌∷◌, ◌++◌, IfErr, IfNone, IfOk, IfSome, OnOk};
-ghost use Rattle.zone_name.specs.Common.{NothingIs};
-ghost use Rattle.zone_words.specs.Fault.{AppendsStated, IfFault};
+ghost use Rattle.std.specs.Prelude.{◌≡◌, ◌≤◌, ◌<◌, ◌++◌, IfErr, IfNone, IfOk, IfSome, OnOk};
+ghost use Rattle.zone_words.specs.Fault.{AppendsStated, IfFault, NothingStated};
 ghost use Rattle.zone_words.specs.Kinds.Eui.{FailsEui, IsPair, PrintsEui, StatesEui, eui_text};
-ghost use Rattle.zone_words.specs.Machine.Pairs.{BeginsWithPair, IsCutPair};
+ghost use Rattle.zone_words.specs.Machine.Pairs.{AppendsPair, BeginsWithPair, IsCutAtHyphen};
 ghost use Rattle.zone_words.specs.Printed.{IfNoData, NoFront, PrintsFront};
+ghost use Rattle.zone_words.specs.declared.fault.WordsFault.TheVariants.{NotAnAddress};
 
 use crate::fault::{WordsFailing, WordsFault};
 use crate::taking::take;
 use crate::unprinted::Unprinted;
-use hex::decode_to_slice;
 use std::alloc::AllocError;
-use zone_rdata::push_hex;
+use zone_rdata::{push_hex, push_octets_of_hex};
 
 /// Appends the six octets of an EUI-48: pairs of hexadecimal digits in either letter case, parted
 /// by hyphens (RFC 7043 3.2).
@@ -54,37 +53,34 @@ fn read_pairs(text: &[u8], count: usize, out: &mut Vec<u8>) -> Result<(), WordsF
         return Err(WordsFailing::Fault(WordsFault::NotAnAddress));
     }
     let mut rest = text;
-    while let Some((octet, after)) = octet_before_hyphen(rest) {
-        out.extend_from_slice(&[octet])?;
+    while let Some((pair, after)) = cut_at_hyphen(rest) {
+        push_pair(pair, out)?;
         rest = after;
     }
-    let Some(octet) = octet_of(rest) else {
-        return Err(WordsFailing::Fault(WordsFault::NotAnAddress));
-    };
-    Ok(out.extend_from_slice(&[octet])?)
+    push_pair(rest, out)
 }
 
-/// The octet of the pair before the first hyphen, and what stands after that hyphen. `None`: the
-/// text doesn't begin with a pair and a hyphen.
-fn octet_before_hyphen(text: &[u8]) -> Option<(u8, &[u8])>
-    ensures some { IfSome result (λ found. IsCutPair text.now found.0 found.1.now) }
+/// The first two characters, and what stands after the hyphen that follows them. `None`: no hyphen
+/// does.
+fn cut_at_hyphen(text: &[u8]) -> Option<(&[u8], &[u8])>
+    ensures some { IfSome result (λ cut. IsCutAtHyphen text.now cut.0.now cut.1.now) }
     ensures none { IfNone result (BeginsWithPair text.now → ⊥) }
 {
     if text.len() < 3 || text[2] != b'-' {
         return None;
     }
-    let octet = octet_of(&text[..2])?;
-    Some((octet, &text[3..]))
+    Some((&text[..2], &text[3..]))
 }
 
-/// The octet of a pair of digits. `None`: the text is none.
-fn octet_of(text: &[u8]) -> Option<u8>
-    ensures some { IfSome result (λ octet. IsPair text.now octet) }
-    ensures none { IfNone result (NothingIs (IsPair text.now)) }
+/// Appends the octet of two hexadecimal digits.
+fn push_pair(text: &[u8], out: &mut Vec<u8>) -> Result<(), WordsFailing>
+    ensures states { OnOk result (AppendsPair text.now out.old.items out.new.items) }
+    ensures fault { IfErr result (IfFault (NothingStated NotAnAddress (IsPair text.now))) }
 {
-    let mut octet = [0; 1];
-    decode_to_slice(text, &mut octet).ok()?;
-    Some(octet[0])
+    if text.len() != 2 || !push_octets_of_hex(text, out)? {
+        return Err(WordsFailing::Fault(WordsFault::NotAnAddress));
+    }
+    Ok(())
 }
 
 /// Appends the first octets, so many, as pairs of hexadecimal digits parted by hyphens (RFC 7043

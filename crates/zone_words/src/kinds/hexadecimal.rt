@@ -10,8 +10,7 @@ use super::joined::joined_text;
 use crate::data_item::DataItem;
 use crate::fault::{WordsFailing, WordsFault};
 use crate::unprinted::Unprinted;
-use hex::decode_to_slice;
-use zone_rdata::push_hex;
+use zone_rdata::{push_hex, push_octets_of_hex};
 
 /// Appends the octets, one or more, that hexadecimal digits stand for, in one item or more (RFC
 /// 4648 8). The digits of an octet may be parted between items, as by any white space (RFC 4034
@@ -59,13 +58,10 @@ pub(super) fn read_digits(text: &[u8], out: &mut Vec<u8>) -> Result<(), WordsFai
     ensures states { OnOk result (AppendsStated (IsHex text.now) out.old.items out.new.items) }
     ensures fault { IfErr result (IfFault (NothingStated NoHexadecimal (IsHex text.now))) }
 {
-    if text.is_empty() {
+    if text.is_empty() || !push_octets_of_hex(text, out)? {
         return Err(WordsFailing::Fault(WordsFault::NoHexadecimal));
     }
-    let before = out.len();
-    out.resize(before + text.len() / 2, 0)?;
-    let (_, room) = out.as_mut_slice().split_at_mut(before);
-    decode_to_slice(text, room).map_err(|_| WordsFailing::Fault(WordsFault::NoHexadecimal))
+    Ok(())
 }
 
 /// Appends octets as one item of hexadecimal digits, after a blank (RFC 4648 8).

@@ -1,5 +1,5 @@
 //! Laws of what is written anew as the reader of plain master files reads it.
-ghost use Rattle.std.specs.Prelude.{◌≡◌, ◌↔◌, ◌++◌, ◌∷◌, codes, List, [], ℕ, IsSome};
+ghost use Rattle.std.specs.Prelude.{◌≡◌, ◌↔◌, ◌++◌, ◌∷◌, List, [], ℕ, IsSome};
 ghost use Rattle.std.specs.List.{AllByRecursion};
 ghost use Rattle.zone_name.specs.Common.{Labels};
 ghost use Rattle.zone_rdata.specs.Record.{Record};
@@ -12,6 +12,7 @@ ghost use Rattle.zone_text.specs.Statements.{statement_of};
 ghost use Rattle.zone_text.specs.Tokens.{IsToken, Token};
 ghost use Rattle.zone_words.specs.Entry.{BecomesUnder, IsRewriting, TokensFail, TokensSay};
 ghost use Rattle.zone_words.specs.Rewriting.{IsRewrittenSoFar, Refused};
+ghost use Rattle.zone_words.specs.Stopped.{stopped_line};
 ghost use Rattle.zone_words.specs.WithWords.{EndsBy, FileReadsWithWords, FileStatesWithWords};
 ghost use Rattle.zone_words.specs.WithWords.{HasItsData, HasItsParts, LeaveAlike};
 ghost use Rattle.zone_words.specs.Written.{Anew, written};
@@ -76,14 +77,14 @@ pub fn a_reading_of_a_rewriting_gives_the_files_records()
     an_entry_has_one_outcome();
 }
 
-/// What is written before more octets come, with a last line `$STOPPED`, states no list of records,
-/// and a reading of it finds a fault.
+/// What is written before more octets come, with a last line `$STOPPED` of its own, states no list of
+/// records, and a reading of it finds a fault.
 pub fn what_is_stopped_is_no_file()
     ensures stated { (cased origin : Labels) (fed waiting new : List ℕ) (told : List Refused)
         (placed : List Placed) → IsRewrittenSoFar (BecomesUnder cased) fed waiting new told
-        → FileStates origin (new ++ (codes "$STOPPED" ++ 10 ∷ [])) placed → ⊥ }
+        → FileStates origin (new ++ stopped_line new) placed → ⊥ }
     ensures refused { (cased origin : Labels) (fed waiting new : List ℕ) (told : List Refused)
         (placed : List Placed) (ending : Ending)
         → IsRewrittenSoFar (BecomesUnder cased) fed waiting new told
-        → FileReads origin (new ++ (codes "$STOPPED" ++ 10 ∷ [])) placed ending → IsSome ending }
+        → FileReads origin (new ++ stopped_line new) placed ending → IsSome ending }
 {}

@@ -1,17 +1,24 @@
-use Rattle.base64.specs.GeneralPurpose.{decode_of}
-use Rattle.base64.specs.Engines.{standard}
-use Rattle.zone_words.proofs.Common.{ap, arith, length, refl, sym, ◌∙◌}
-use Rattle.zone_words.proofs.Base64Texts.{decoded_appended, decodes_again, no_base64}
+use Rattle.zone_words.proofs.Common.{arith, fault_answered, nat_tests, nil_from_length, on_ok_weaker, refl}
+use Rattle.zone_words.proofs.Base64Groups.{all_groups, last_groups, left_encoded}
+use Rattle.zone_words.proofs.Base64Texts.{no_base64}
 use Rattle.zone_words.proofs.kinds.base64_text.push_decoded.Goals as goal
-use Rattle.std.proofs.lemmas.Bool.{eqb-false}
 
 pub returns-then-is_empty-clause-fault : goal.returns-then-is_empty-clause-fault
 returns-then-is_empty-clause-fault c = (refl, λ octets is. no_base64 c.args.text.now octets (grind (arith, c.is_empty.ensures, c.if-is_empty.true)) is)
 
-pub returns-in-Ok-clause-states : goal.returns-in-Ok-clause-states
-returns-in-Ok-clause-states c =
-    decoded_appended c.args.text.now c.args.out.now.items _ _ (λ i. omega (arith, c.type_inv.text i)) c.in-Ok.ensures.bytes (omega (arith, eqb-false (length c.args.text.now) 0 (sym c.is_empty.ensures ∙ c.if-is_empty.false))) c.in-Ok.ensures.ok c.in-Ok.ensures.front
+pub returns-then-is_empty-2-clause-states : goal.returns-then-is_empty-2-clause-states
+returns-then-is_empty-2-clause-states c =
+    all_groups c.args.text.now c.in_ok-rest.rest.now c.args.out.now.items c.push_groups.new.out.items (grind (arith, nat_tests, c.is_empty.ensures, c.if-is_empty.false)) (nil_from_length c.in_ok-rest.rest.now (grind (arith, nat_tests, c.is_empty-2.ensures, c.if-is_empty-2.true))) c.in_ok-rest.ensures
 
-pub returns-in-Err-DecodeError-clause-fault : goal.returns-in-Err-DecodeError-clause-fault
-returns-in-Err-DecodeError-clause-fault c =
-    (refl, (λ octets is. let good = ap (decode_of standard) is.encoded ∙ decodes_again octets is.each in cc (sym (rw c.in-Err-DecodeError.field-0-is at c.in-Err-DecodeError.ensures.err) ∙ good)))
+pub returns-clause-states : goal.returns-clause-states
+returns-clause-states c =
+    on_ok_weaker c.push_last.result (last_groups c.args.text.now c.in_ok-rest.rest.now c.args.out.now.items c.push_groups.new.out.items c.push_last.new.out.items c.in_ok-rest.ensures) c.push_last.ensures.states
+
+pub returns-clause-fault : goal.returns-clause-fault
+returns-clause-fault c =
+    fault_answered c.push_last.result _ _
+    (λ fault bad. (
+      bad.0,
+      λ octets is. bad.1 _ (left_encoded c.args.text.now c.in_ok-rest.rest.now c.args.out.now.items c.push_groups.new.out.items octets (grind (arith, nat_tests, c.is_empty-2.ensures, c.if-is_empty-2.false)) c.in_ok-rest.ensures is),
+    ))
+    c.push_last.ensures.fault

@@ -1,7 +1,7 @@
 use Rattle.zone_set.proofs.Common.{AreNeighbours, IsPermutation-put_mid, IsPermutation-trans, all_records, ap, arith, drop, length, length-take-le, length_permutation, subst, sym, take, take_at, ◌+◌, ◌-◌, ◌∙◌, ◌≡◌, ◌≤◌}
 use Rattle.zone_set.proofs.Lists.Looking.{take_front}
 use Rattle.zone_set.proofs.Lists.Repeats.{each_moved}
-use Rattle.zone_set.proofs.bulk.put_run.Goals as goal
+use Rattle.zone_set.proofs.bulk.put_few.Goals as goal
 
 pub returns-then-not-put_last-clause-moved : goal.returns-then-not-put_last-clause-moved
 returns-then-not-put_last-clause-moved g c = IsPermutation-trans _ _ _ c.loop-put.invariant.2 (IsPermutation-put_mid 0 (c.loop-put.put + 1) c.loop-put.entries c.put_last.new.entries c.put_last.ensures.moved)
