@@ -17,5 +17,6 @@ mod SameVerdict
 mod SoaNumbers
 mod OneTtl
 mod OneWanted
+mod Telling
 mod SomeVerdict
 pub mod SeenBefore

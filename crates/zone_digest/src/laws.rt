@@ -1,7 +1,7 @@
 //! Laws of digests and verdicts: facts about their definitions alone, as the contracts of functions
 //! that do nothing.
 ghost use Rattle.std.specs.Prelude.{◌≡◌, ◌↔◌, List};
-ghost use Rattle.zone_digest.specs.Digest.{IsDigest};
+ghost use Rattle.zone_digest.specs.Digest.{AreDigestOctets, IsDigested, IsDigest};
 ghost use Rattle.zone_digest.specs.Findings.{AreFindings};
 ghost use Rattle.zone_digest.specs.Laws.{DifferInLeftOut, DifferInLetters, HasNoPair, HasOneMore, HasTtlOfItsSet, TellTheSame, TellsVerified};
 ghost use Rattle.zone_digest.specs.Verdict.{IsSerial, IsVerdictOn, IsVerified, IsZonemd};
@@ -11,13 +11,20 @@ ghost use Rattle.zone_digest.specs.declared.algorithm.ZoneDigest.{ZoneDigest};
 ghost use Rattle.zone_digest.specs.declared.verdict.Finding.{Finding};
 ghost use Rattle.zone_digest.specs.declared.verdict.Verdict.{Verdict};
 ghost use Rattle.zone_digest.specs.declared.verdict.Verdict.TheVariants.{Verified};
-ghost use Rattle.zone_name.specs.Common.{AtMostOneIs};
+ghost use Rattle.zone_name.specs.Common.{AtMostOneIs, Octets};
 ghost use Rattle.zone_rdata.specs.Record.{IsRecord, Record};
 ghost use Rattle.zone_set.specs.Zone.{IsZone, SameRecords, Zone};
 
 /// A zone has at most one digest by each hash algorithm.
 pub fn one_digest_of_a_zone()
     ensures { (z : Zone) (a : Algorithm) → AtMostOneIs (IsDigest z a) }
+{}
+
+/// The octets that are digested tell the digested records: what two zones with the same ones have in
+/// common is all but letters of names in data and what is left out.
+pub fn digested_octets_tell_the_records()
+    ensures { (z w : Zone) (octets : Octets) (r : Record) → IsZone z → IsZone w
+        → AreDigestOctets z octets → AreDigestOctets w octets → IsDigested z r ↔ IsDigested w r }
 {}
 
 /// A zone has a digest by each hash algorithm.
