@@ -1,0 +1,17 @@
+-- the reply on the zone, and on an input that denotes none
+use Rattle.std.proofs.Common.{◌∙◌, refl}
+use Rattle.zonenorm_c.specs.Answering.{accepted, halted}
+use Rattle.zonenorm_c.specs.declared.given.Unread.TheVariants.{Memory}
+use Rattle.zonenorm_c.specs.declared.zone.Halt.TheVariants.{Unread}
+use Rattle.zonenorm_c.proofs.normalising.reply_of.Goals as goal
+
+pub returns-in-Err : goal.returns-in-Err
+returns-in-Err c = halted c.in-Err.halt c.in-Err.ensures.halt c.halt_reply.ensures
+
+pub returns-in-Ok-push_zone : goal.returns-in-Ok-push_zone
+returns-in-Ok-push_zone c =
+    accepted c.in-Ok.zone c.in-Ok.ensures.zone (record { canonical = c.in-Ok-push_zone.ensures.text; status = c.counted-answer.ensures.status; count = c.counted-answer.ensures.count ∙ c.len.ensures })
+
+pub returns : goal.returns
+returns c =
+    halted (Unread Memory) tt (rw (c.without_text.ensures.answer, c.plain.ensures) refl, c.without_text.ensures.text)

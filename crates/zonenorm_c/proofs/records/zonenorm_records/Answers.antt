@@ -1,0 +1,4 @@
+use Rattle.zonenorm_c.proofs.records.zonenorm_records.Goals as goal
+
+pub returns : goal.returns
+returns c = rw (c.hand_out.ensures.text, c.hand_out.ensures.answer) c.reply_of-reply.ensures

@@ -1,0 +1,190 @@
+"""The calls of the library."""
+from __future__ import annotations
+
+import mmap
+from collections.abc import Iterator
+from contextlib import contextmanager
+from ctypes import byref
+from typing import Final, NamedTuple
+
+from . import _ffi
+from ._errors import OriginError, Refused, ZonenormError
+
+Buffer = bytes | bytearray | memoryview | mmap.mmap
+TRANSFER: Final = "transfer"
+VERDICTS: Final[tuple[str, ...]] = (
+    "malformed", "other serial", "unknown scheme", "unknown algorithm", "repeated", "differs", "verified")
+_ALGORITHMS = {"SHA384": 1, "SHA512": 2}
+MOST_OCTETS: Final = 1 << 30
+
+
+class Comparison(NamedTuple):
+    """Whether two inputs denote one zone, and otherwise the first line at which their canonical texts differ.
+
+    It has no truth value, since either reading would surprise: use `same`.
+    """
+
+    same: bool
+    line: int | None
+
+    def __bool__(self) -> bool:
+        raise TypeError("a Comparison has no truth value: use its attribute `same`")
+
+
+@contextmanager
+def given(data: Buffer, origin: str, words: bool, max_octets: int | None) -> Iterator[_ffi.Input]:
+    """Lend an input to the library."""
+    if max_octets is not None and max_octets < 1:
+        raise ValueError("max_octets is less than 1")
+    try:
+        name = origin.encode("ascii")
+    except UnicodeEncodeError:
+        raise OriginError(f"{origin!r} is no absolute name") from None
+    kind = _ffi.TRANSFER if origin == TRANSFER else _ffi.ALL_TYPES if words else _ffi.FILE
+    with _ffi.lent(data) as octets, _ffi.lent(name) as spelled:
+        yield _ffi.Input(kind=kind, limit=min(max_octets or 0, MOST_OCTETS), origin=spelled, octets=octets)
+
+
+def _refused(answer: _ffi.Answer, text: bytes, field: str | None = None) -> Refused:
+    """Return the exception for an input that is refused."""
+    line, is_message = answer.line, answer.place == _ffi.MESSAGE
+    return Refused(
+        text.decode("ascii", "backslashreplace") or f"F{answer.fault}", answer.fault,
+        line=line if answer.place == _ffi.LINE else None, message=line if is_message else None,
+        offset=answer.offset if is_message else None, which=answer.input or None, field=field)
+
+
+def _check(answer: _ffi.Answer, text: bytes) -> None:
+    """Raise the exception that an answer stands for, if it has no result."""
+    status = answer.status
+    if status in (_ffi.OK, _ffi.DIFFERENT):
+        return
+    if status == _ffi.REFUSED:
+        raise _refused(answer, text)
+    if status == _ffi.BAD_ORIGIN:
+        raise OriginError("the origin is no absolute name in presentation format, with its final dot")
+    if status == _ffi.NO_MEMORY:
+        raise MemoryError("out of memory")
+    raise ZonenormError(f"the library answered status {status}")
+
+
+def _call(name: str, *arguments: object) -> tuple[bytes, _ffi.Answer]:
+    """Call an export that hands out one text."""
+    text, answer = _ffi.Octets(), _ffi.Answer()
+    getattr(_ffi.LIBRARY, name)(*arguments, byref(text), byref(answer))
+    octets = _ffi.taken(text)
+    _check(answer, octets)
+    return octets, answer
+
+
+def normalise(data: Buffer, origin: str, *, words: bool = True, max_octets: int | None = None) -> bytes:
+    r"""Return the canonical text of the zone that an input denotes.
+
+    The input is a master file and its origin, with the final dot, or a zone transfer and the origin TRANSFER. With words=False
+    only ten types may be in presentation format, as with the command `zonenorm`; otherwise 50 types may. More than max_octets
+    octets are refused; the default is 1 GiB.
+
+    Raises Refused, OriginError or MemoryError.
+
+    >>> file = b"$TTL 1h\n@ SOA ns1 hostmaster 1 2h 30m 2w 1h\n NS NS1\nns1 A 192.0.2.1\n"
+    >>> print(normalise(file, "example.").decode(), end="")
+    example. 3600 IN SOA ns1.example. hostmaster.example. 1 7200 1800 1209600 3600
+    example. 3600 IN NS ns1.example.
+    ns1.example. 3600 IN A 192.0.2.1
+    """
+    with given(data, origin, words, max_octets) as it:
+        return _call("zonenorm_normalise", byref(it))[0]
+
+
+def compare(
+    data: Buffer, origin: str, other: Buffer, other_origin: str, *, words: bool = True, max_octets: int | None = None,
+) -> Comparison:
+    r"""Compare two inputs: do they denote one zone?
+
+    Raises Refused, whose attribute `which` is 1 or 2, OriginError or MemoryError.
+
+    >>> file = b"$TTL 1h\n@ SOA ns1 hostmaster 1 2h 30m 2w 1h\n NS NS1\n"
+    >>> compare(file, "example.", file.lower(), "Example.")
+    Comparison(same=True, line=None)
+    >>> compare(file, "example.", file + b"www A 192.0.2.2\n", "example.")
+    Comparison(same=False, line=3)
+    """
+    with given(data, origin, words, max_octets) as first, given(other, other_origin, words, max_octets) as second:
+        answer = _call("zonenorm_compare", byref(first), byref(second))[1]
+    return Comparison(answer.status == _ffi.OK, answer.line if answer.status else None)
+
+
+def verify(data: Buffer, origin: str, *, words: bool = True, max_octets: int | None = None) -> tuple[bool, list[str]]:
+    r"""Verify a zone against its ZONEMD records (RFC 8976).
+
+    Return whether one of them verifies the zone, and the verdict on each of those at the apex, one of VERDICTS.
+    Raises Refused, OriginError or MemoryError.
+
+    >>> verify(b"@ 60 SOA ns h 1 2 3 4 5\n", "example.")
+    (False, [])
+    """
+    with given(data, origin, words, max_octets) as it:
+        verdicts, answer = _call("zonenorm_verify", byref(it))
+    return answer.status == _ffi.OK, [VERDICTS[number] for number in verdicts]
+
+
+def digest(
+    data: Buffer, origin: str, *, algorithm: str = "SHA384", words: bool = True, max_octets: int | None = None,
+) -> bytes:
+    r"""Return the canonical line of the ZONEMD record that states the digest of a zone (RFC 8976).
+
+    The algorithm is "SHA384" or "SHA512". Raises Refused, OriginError, MemoryError, or ValueError for another algorithm.
+
+    >>> digest(b"@ 60 SOA ns h 1 2 3 4 5\n", "example.")[:34]
+    b'example. 60 IN TYPE63 \\# 54 000000'
+    """
+    if algorithm not in _ALGORITHMS:
+        raise ValueError(f"unknown algorithm: {algorithm!r}")
+    with given(data, origin, words, max_octets) as it:
+        return _call("zonenorm_digest", byref(it), _ALGORITHMS[algorithm])[0]
+
+
+def generic(data: Buffer, origin: str, *, max_octets: int | None = None) -> bytes:
+    r"""Return a master file with the data of further types in the generic form (RFC 3597), line by line.
+
+    Raises Refused, with number 0 and the attribute `field`, if an entry states no data of its type; OriginError or MemoryError.
+
+    >>> generic(b"@ 60 CAA 0 issue ca.example\n", "example.")
+    b'@ 60 TYPE257 \\# 17 0005697373756563612e6578616d706c65\n'
+    >>> generic(b"@ 60 CAA 0 issue\n", "example.")
+    Traceback (most recent call last):
+    zonenorm.Refused: line 1: CAA, value: nothing left
+    """
+    text, reason, answer = _ffi.Octets(), _ffi.Octets(), _ffi.Answer()
+    with given(data, origin, True, max_octets) as it:
+        _ffi.LIBRARY.zonenorm_generic(byref(it), byref(text), byref(reason), byref(answer))
+    octets, why = _ffi.taken(text), _ffi.taken(reason)
+    if answer.status == _ffi.REFUSED and not answer.fault:
+        parts = why.decode("ascii", "backslashreplace").split(": ", 2)
+        raise _refused(answer, why, parts[1] if len(parts) == 3 else None)
+    _check(answer, why)
+    return octets
+
+
+def words(text: Buffer) -> bytes:
+    r"""Return a canonical text, or a diff of two, with the data of further types in presentation format.
+
+    Raises MemoryError.
+
+    >>> words(rb"example. 60 IN TYPE257 \# 17 0005697373756563612e6578616d706c65" + b"\n")
+    b'example. 60 IN CAA 0 issue "ca.example"\n'
+    """
+    with _ffi.lent(text) as octets:
+        return _call("zonenorm_words", octets.at, octets.len)[0]
+
+
+def records(data: Buffer, origin: str, *, words: bool = True, max_octets: int | None = None) -> bytes:
+    r"""Return the records of a zone in canonical order, each as an uncompressed message has it (RFC 1035 3.2.1).
+
+    Raises Refused, OriginError or MemoryError.
+
+    >>> records(b"@ 60 SOA . . 1 2 3 4 5\n", ".")[:11].hex(" ")
+    '00 00 06 00 01 00 00 00 3c 00 16'
+    """
+    with given(data, origin, words, max_octets) as it:
+        return _call("zonenorm_records", byref(it))[0]
