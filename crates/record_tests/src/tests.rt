@@ -4,6 +4,7 @@ use zone_rdata::{Failing, Fault};
 
 mod addresses;
 mod answers;
+mod generated_lines;
 mod growth;
 mod handed;
 mod items;

@@ -7,6 +7,7 @@ use zone_rdata::Stop;
 
 mod conflicts;
 mod devices;
+mod differences;
 mod digest_runs;
 mod digests;
 mod explained;

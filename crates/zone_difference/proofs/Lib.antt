@@ -1,0 +1,2 @@
+mod OneDifference
+mod Steps

@@ -1,0 +1,4 @@
+mod GenericOctets
+mod Forms
+mod Headline
+mod InMemory

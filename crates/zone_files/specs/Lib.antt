@@ -1,0 +1,2 @@
+pub mod Presentation
+pub mod Normalise
