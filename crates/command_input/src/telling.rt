@@ -31,7 +31,8 @@ pub fn refuse<E: OctetWriter>(fault: &LineFault, errors: &mut E) -> u8
     tell(errors, "", fault.text(), fault.status())
 }
 
-/// Tells why a command line is no order, as [`refuse`] does, where these words tell of a bad origin.
+/// Prints why a command line is no order, with a line of the caller's for a bad origin, and answers
+/// the status: 4 where that could not be printed.
 pub fn refuse_saying<E: OctetWriter>(bad_origin: &str, fault: &LineFault, errors: &mut E) -> u8
     ensures { TellsLine (line_text bad_origin.now fault.now) (line_status fault.now)
         (E.state errors.old) (E.state errors.new) result }

@@ -38,7 +38,8 @@ pub fn order_of(alloc: Global, words: &[String]) -> Result<Order, LineFault>
 ///
 /// # Errors
 ///
-/// Those of `order_of`.
+/// `BadOrigin` where the text of the origin spells no absolute name (RFC 1035 5.1); `Clap` where
+/// `clap` gives no matches for a command, help included; `Memory`.
 pub fn order_after_name(alloc: Global, words: &[String]) -> Result<Order, LineFault>
     ensures ordered { IfOk result (Orders (drop 1 (map string_bytes words.now))) }
     ensures refused { IfErr result (IsLineFault (drop 1 (map string_bytes words.now))) }

@@ -181,11 +181,13 @@ impl WordsPrinter {
     }
 }
 
-/// A text in words, line by line, as `print_line` shows each.
+/// A canonical text, or a difference of two, in presentation format. A line that ends with a class,
+/// a type and data in the generic form (RFC 3597 5) gets the mnemonic of the type and its data in
+/// presentation format, if the octets are data of a type of the table. Every other line stays.
 ///
 /// # Errors
 ///
-/// `AllocError`.
+/// `AllocError` where memory is refused.
 pub fn print_words(alloc: Global, octets: &[u8]) -> Result<Vec<u8>, AllocError>
     ensures { IfOk result (λ shown. IsShownText octets.now shown.items) }
 {

@@ -46,7 +46,8 @@ pub fn order_of(alloc: Global, words: &[String]) -> Result<Order, LineFault>
 ///
 /// # Errors
 ///
-/// Those of `order_of`.
+/// `BadOrigin` where the text of an origin is neither an absolute name nor `transfer`; `Clap` where
+/// `clap` gives no matches for one of the commands, help included; `Memory`.
 pub fn order_after_name(alloc: Global, words: &[String]) -> Result<Order, LineFault>
     ensures ordered { IfOk result (Orders (drop 1 (map string_bytes words.now))) }
     ensures refused { IfErr result (IsLineFault (drop 1 (map string_bytes words.now))) }

@@ -46,7 +46,8 @@ impl Which {
     }
 }
 
-/// What shows a user why two inputs weren't compared. It is made of the pair that [`compare`] answers.
+/// What shows a user why two inputs weren't compared. It is made of the pair that [`compare`]
+/// answers.
 #[derive(Debug, Drop)]
 pub struct CompareError {
     /// The first input that stopped it.
@@ -116,7 +117,8 @@ pub fn compare<R: OctetReader, S: OctetReader>(
     }
 }
 
-/// Compares two inputs whose octets are in memory, as [`compare`] does.
+/// Compares the canonical texts of the zones that two inputs in memory denote, without making the
+/// texts: they are the same, or differ first at a line.
 ///
 /// # Errors
 ///

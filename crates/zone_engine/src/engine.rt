@@ -52,12 +52,13 @@ pub fn normalise<R: OctetReader, W: OctetWriter>(
     Ok(zone.len())
 }
 
-/// The zone that the reader's octets denote. The reader is read as by [`normalise`].
+/// The zone that the reader's octets denote. The reader is read to its end, or to the octet after
+/// the limit of 1,073,741,824.
 ///
 /// # Errors
 ///
-/// `Refused` where they denote none, as `normalise` refuses them; `Read` where the reader failed,
-/// which isn't called again; `Memory`.
+/// `Refused` where they denote no zone, with the first fault and its place; `Read` where the reader
+/// failed, which isn't called again; `Memory`.
 #[tactic(auto, using(crate::proofs::Written::denotes_within))]
 pub fn accepted_zone<R: OctetReader>(
     alloc: Global,
@@ -79,7 +80,9 @@ pub fn accepted_zone<R: OctetReader>(
 ///
 /// # Errors
 ///
-/// Those of [`accepted_zone`]; `InputTooLong` where there are more than `limit` octets.
+/// `Refused` where they denote no zone, with the first fault and its place, which is `InputTooLong`
+/// where there are more than `limit` octets; `Read` where the reader failed, which isn't called
+/// again; `Memory`.
 pub fn accepted_zone_within<R: OctetReader>(
     alloc: Global,
     form: Form<'_>,

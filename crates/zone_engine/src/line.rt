@@ -25,12 +25,12 @@ pub fn write_line<W: OctetWriter>(writer: &mut W, words: &str, line: &str) -> Re
     write_octet_line(writer, words.as_bytes(), line.as_bytes())
 }
 
-/// Writes these words, the line of a refusal and a line feed, as [`write_line`] does. It takes no
-/// memory.
+/// Writes these words, the line of a refusal and a line feed, and allocates nothing. Every error of
+/// the writer ends it, `Interrupted` too, and it isn't flushed.
 ///
 /// # Errors
 ///
-/// Those of `write_line`.
+/// `Write` where the writer failed. A proper prefix of all that was written.
 pub fn write_refusal<W: OctetWriter>(
     writer: &mut W,
     words: &str,
@@ -70,8 +70,8 @@ pub fn tell<E: OctetWriter>(errors: &mut E, words: &str, line: &str, answer: u8)
     answered(write_line(errors, words, line), answer)
 }
 
-/// Writes these words and the line of a refusal, and answers this status: 4 where the writer failed.
-/// It takes no memory.
+/// Writes these words and the line of a refusal, and answers this status: 4 where the writer
+/// failed. It takes no memory.
 pub fn tell_refusal<E: OctetWriter>(
     errors: &mut E,
     words: &str,

@@ -34,7 +34,8 @@ impl CasedName {
     ///
     /// # Errors
     ///
-    /// Those of `Name::from_text`.
+    /// The first fault of the text: the leftmost `EmptyLabel`, `LabelTooLong` or `BadEscape`; then
+    /// `RelativeName` where it is relative and there is no origin; then `NameTooLong`.
     pub fn from_text(text: &[u8], origin: Option<&CasedName>) -> Result<CasedName, NameFault>
         ensures found { IfOk result
             (λ name. SpellsCased (option_copied origin.entry) text.now name) }
@@ -52,7 +53,8 @@ impl CasedName {
     ///
     /// # Errors
     ///
-    /// Those of `Name::from_text`.
+    /// The first fault of the text: the leftmost `EmptyLabel`, `LabelTooLong` or `BadEscape`; then
+    /// `RelativeName` where it is relative and there is no origin; then `NameTooLong`.
     pub fn set_from_text(
         &mut self,
         text: &[u8],

@@ -5,8 +5,8 @@ use crate::lent::NameRef;
 use crate::name::Name;
 use std::fmt;
 
-/// The canonical spelling, as [`NameRef::print`] appends it. It takes no memory, and the options of
-/// a format, as a width, change nothing.
+/// The canonical spelling: absolute, in lower case, with escapes (RFC 1035 5.1). It allocates
+/// nothing, and the options of a format, such as a width, change nothing.
 impl<'a> fmt::Display for NameRef<'a> {
     ghost use Rattle.std.specs.Prelude.{Some};
     ghost use Rattle.zone_name.specs.Text.{name_text};
@@ -20,8 +20,8 @@ impl<'a> fmt::Display for NameRef<'a> {
     }
 }
 
-/// The canonical spelling, as [`Name::push_text`] appends it. It takes no memory, and the options of
-/// a format, as a width, change nothing.
+/// The canonical spelling: absolute, in lower case, with escapes (RFC 1035 5.1). It allocates
+/// nothing, and the options of a format, such as a width, change nothing.
 impl fmt::Display for Name {
     ghost use Rattle.std.specs.Prelude.{Some};
     ghost use Rattle.zone_name.specs.Text.{name_text};

@@ -53,7 +53,8 @@ impl Name {
     ///
     /// # Errors
     ///
-    /// Those of `from_text`.
+    /// The first fault of the text: the leftmost `EmptyLabel`, `LabelTooLong` or `BadEscape`; then
+    /// `RelativeName` where it is relative and there is no origin; then `NameTooLong`.
     pub fn set_from_text(&mut self, text: &[u8], origin: Option<&Name>) -> Result<(), NameFault>
         ensures found { OnOk result (Spells (option_copied origin.entry) text.now self.new) }
         ensures only { (name : List Octets) → Spells (option_copied origin.entry) text.now name
@@ -70,8 +71,10 @@ impl Name {
     ///
     /// # Errors
     ///
-    /// The inner one is that of `from_text`, and the outer one that memory is refused. Nothing is
-    /// said of `out` then.
+    /// The outer one is `AllocError` where memory is refused; nothing is said of `out` then. The
+    /// inner one is the first fault of the text: the leftmost `EmptyLabel`, `LabelTooLong` or
+    /// `BadEscape`; then `RelativeName` where it is relative and there is no origin; then
+    /// `NameTooLong`.
     pub fn push_spelled(
         text: &[u8],
         origin: Option<&Name>,

@@ -124,7 +124,8 @@ impl RdataBuilder {
     ///
     /// # Errors
     ///
-    /// Those of `push_u16`.
+    /// `BadRdata` where that isn't the next part, `RdataTooLong` where the data would have more
+    /// than 65,535 octets; and `Memory` where memory is refused.
     #[tactic(auto, using(std::proofs::lemmas::Result::err_from_is_err_and))]
     pub fn push_u32(&mut self, number: u32) -> Result<(), Failing>
         ensures ok { OnOk result (Pushes self.old (u32_value number) self.new) }
@@ -138,7 +139,8 @@ impl RdataBuilder {
     ///
     /// # Errors
     ///
-    /// Those of `push_u16`.
+    /// `BadRdata` where that isn't the next part, `RdataTooLong` where the data would have more
+    /// than 65,535 octets; and `Memory` where memory is refused.
     #[tactic(auto, using(std::proofs::lemmas::Result::err_from_is_err_and))]
     pub fn push_name(&mut self, target: &Name) -> Result<(), Failing>
         ensures ok { OnOk result (Pushes self.old (name target.now) self.new) }
@@ -168,7 +170,9 @@ impl RdataBuilder {
     ///
     /// # Errors
     ///
-    /// Those of `push_octets` and `push_string`.
+    /// `BadRdata` where that isn't the next part, `StringTooLong` for a string over 255 octets,
+    /// `RdataTooLong` where the data would have more than 65,535 octets; and `Memory` where memory
+    /// is refused.
     #[tactic(auto, using(crate::proofs::Octets::Building::push_faults))]
     pub fn push(&mut self, part: Part) -> Result<(), NarrowFailing>
         ensures ok { OnOk result (Pushes self.old (value_of part.entry) self.new) }

@@ -89,7 +89,8 @@ impl Class {
         Ok(Class::read_word(word)?)
     }
 
-    /// As `from_word`, with the cause of the fault.
+    /// The class of a mnemonic in any letter case: IN, CS, CH, HS or CLASS with a number. `None`:
+    /// it is none of these. An error is the cause of the fault, which takes few octets.
     ///
     /// # Errors
     ///

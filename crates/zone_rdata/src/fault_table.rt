@@ -27,7 +27,7 @@ impl Fault {
     }
 }
 
-/// What is wrong, in words, as [`Fault::text`] has it.
+/// What is wrong, in a few English words, without the number, the name or the place.
 impl fmt::Display for Fault {
     ghost use Rattle.std.specs.Prelude.{Some};
     ghost use Rattle.zone_rdata.specs.FaultTable.{fault_row};

@@ -92,7 +92,8 @@ impl Kind {
         Ok(Kind::read_word(word)?)
     }
 
-    /// As `from_word`, with the cause of the fault.
+    /// The type of a mnemonic in any letter case, or of TYPE with a number. An error is the cause
+    /// of the fault, which takes few octets.
     ///
     /// # Errors
     ///

@@ -121,7 +121,9 @@ impl Rdata {
     ///
     /// # Errors
     ///
-    /// Those of `from_items`, in few octets.
+    /// The first fault of the items from the left, one of `EmptyLabel`, `LabelTooLong`,
+    /// `NameTooLong`, `BadEscape`, `StringTooLong`, `BadNumber`, `BadRdata`, `BadGeneric` and
+    /// `RdataTooLong`; and `Memory` where memory is refused. The error takes few octets.
     pub fn set_from_items(
         &mut self,
         class: Class,

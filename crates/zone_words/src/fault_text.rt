@@ -55,7 +55,7 @@ impl WordsFault {
     }
 }
 
-/// What is wrong, as [`WordsFault::text`] has it.
+/// What is wrong, in a few English words, without the line, the type or the field.
 impl fmt::Display for WordsFault {
     ghost use Rattle.std.specs.Prelude.{Some};
     ghost use Rattle.zone_words.specs.FaultText.{fault_text};
@@ -67,7 +67,7 @@ impl fmt::Display for WordsFault {
     }
 }
 
-/// Of a fault what is wrong, as [`WordsFault::text`] has it.
+/// What is wrong, in a few English words; or that memory was refused.
 impl fmt::Display for WordsFailing {
     ghost use Rattle.std.specs.Prelude.{Some};
     ghost use Rattle.zone_words.specs.FaultText.{failing_text};

@@ -44,12 +44,12 @@ pub extern "C" fn zonenorm_normalise(
     *answer = hand_out(reply, text);
 }
 
-/// Puts the canonical text of the zone that an input denotes into the caller's room, if it fits, and
-/// returns its length. If it doesn't, the room is unchanged.
+/// Puts the canonical text of the zone that an input denotes into the caller's room, if it fits,
+/// and returns its length. If it doesn't, the room is unchanged.
 ///
 /// # Errors
 ///
-/// Those of `zonenorm_normalise`.
+/// Status 2 to 5. With 3 the text is the line of the first fault.
 #[unsafe(no_mangle)]
 pub extern "C" fn zonenorm_normalise_into(
     alloc: Global,

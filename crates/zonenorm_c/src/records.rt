@@ -77,12 +77,13 @@ pub extern "C" fn zonenorm_records(
     *answer = hand_out(reply, text);
 }
 
-/// Puts the records of the zone that an input denotes into the caller's room, as `zonenorm_records`
-/// hands them out, if they fit, and returns their length. If they don't, the room is unchanged.
+/// Puts the records of the zone that an input denotes into the caller's room, if they fit, and
+/// returns their length: in canonical order, each as a message has it without compression (RFC 1035
+/// 3.2.1). If they don't fit, the room is unchanged.
 ///
 /// # Errors
 ///
-/// Those of `zonenorm_records`.
+/// Status 2 to 5. With 3 the text is the line of the first fault.
 #[unsafe(no_mangle)]
 pub extern "C" fn zonenorm_records_into(
     alloc: Global,
