@@ -8,7 +8,7 @@ help: ## this list
 	@grep -hE '^[a-z]+:.*##' Makefile | sed -E 's/^([a-z]+):.*## /make \1\t/' | expand -t 16
 
 kit:
-	@command -v rt > /dev/null || { echo 'rt not found: it is the command of the Rattle kit (README.md, "Run it")' >&2; exit 1; }
+	@command -v rt > /dev/null || { echo 'rt not found: it is the command of the Rattle kit (README.md, "Install")' >&2; exit 1; }
 
 run: kit ## the example of README.md, without proofs: less than a minute the first time
 	@tools/gate/build_unproved zonenorm

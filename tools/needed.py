@@ -72,6 +72,6 @@ def module(name: str, package: str) -> None:
 def kit() -> Path:
     """Returns the folder of the Rattle kit. Ends the script where the command `rt` isn't there."""
     if not shutil.which("rt"):
-        stop("rt not found: it is the command of the Rattle kit, without which nothing is built or proved (README.md, \"Run it\")")
+        stop("rt not found: it is the command of the Rattle kit, without which nothing is built or proved (README.md, \"Install\")")
     page = subprocess.run(["rt", "doc"], stdout=subprocess.PIPE, text=True, check=True).stdout.strip()
     return Path(page).parent
