@@ -13,20 +13,20 @@ pub enum Fault {
     LabelTooLong,
     /// A name has more than 255 octets, with those of its origin (RFC 1035 2.3.4).
     NameTooLong,
-    /// A backslash stands before a line feed, a carriage return, the end, fewer than three digits
+    /// A backslash is followed by a line feed, a carriage return, the end, fewer than three digits
     /// or a number over 255 (RFC 1035 5.1).
     BadEscape,
     /// A name is relative and no origin was handed in (RFC 1035 5.1).
     RelativeName,
     /// The class is 0, NONE 254, ANY 255 or over 65535 (RFC 6895 3.2).
     BadClass,
-    /// The word of the type is missing or quoted, or is no mnemonic that is read and no TYPE with a
-    /// number up to 65535 (RFC 3597 5).
+    /// The type is missing or quoted, or is neither a mnemonic that is read nor TYPE with a number
+    /// up to 65535 (RFC 3597 5).
     UnknownType,
     /// The type is 0, OPT 41 or one of 128 to 255 (RFC 6895 3.1).
     MetaType,
     /// The items or octets aren't exactly one value for each field of the type: one is missing,
-    /// left over, quoted where no string stands, or no address (RFC 1035 3.3, 5.1).
+    /// left over, quoted where no string belongs, or no address (RFC 1035 3.3, 5.1).
     BadRdata,
     /// The generic form is malformed, or missing for a type that is read in no other (RFC 3597 5).
     BadGeneric,
@@ -43,7 +43,7 @@ pub enum Fault {
     UnbalancedParenthesis,
     /// The entry is an `$INCLUDE`, which isn't read (RFC 1035 5.1).
     IncludeDirective,
-    /// The entry's first word begins with `$` and is none of `$ORIGIN`, `$INCLUDE` and `$TTL` (RFC
+    /// The entry's first item begins with `$` and is none of `$ORIGIN`, `$INCLUDE` and `$TTL` (RFC
     /// 1035 5.1; RFC 2308 4).
     UnknownDirective,
     /// What follows `$ORIGIN` (RFC 1035 5.1) or `$TTL` (RFC 2308 4) isn't exactly one item without
