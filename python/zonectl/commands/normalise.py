@@ -1,0 +1,127 @@
+"""`zonectl normalise`: the canonical text of a zone."""
+from __future__ import annotations
+
+import argparse
+import os
+from collections.abc import Callable
+from typing import Any
+
+from .. import engine
+from ..diff_text import alarm
+from ..errors import Failure, Refusal, Status, Undone, Usage, about
+from ..folding import folded_text
+from ..options import Parser, add_output, add_sources, reader_of
+from ..outputs import Output
+from ..reading import stored_octets
+from ..sources import File, Source, sources_of
+from ..zones import Copy, Reader
+
+ABOUT = """\
+Prints the canonical text of a zone: two copies of a zone are the same if and only if their canonical texts are.
+`zonectl normalise SOURCE | sha256sum` is what `zonectl sum` prints."""
+
+
+def parser() -> Parser:
+    """Returns the parser."""
+    made = Parser("normalise", "[OPTION].. SOURCE\n       zonectl normalise [OPTION].. {--output-dir DIR|--archive DIR} SOURCE..", ABOUT)
+    made.option("-p", "--presentation", action="store_true", help="further types in presentation format")
+    made.option("--fold", action="store_true", help="names in RDATA in lower case too")
+    made.option("--output-dir", metavar="DIR", help="write DIR/ZONE.zone for each source")
+    made.option("--archive", metavar="DIR", help="write DIR/ZONE.SERIAL for each source, and never another text under that serial")
+    made.option("--textconv", action="store_true", help="for git: as -p, and a refused file is copied as it is")
+    add_output(made)
+    add_sources(made)
+    return made
+
+
+def run(given: argparse.Namespace, output: Output) -> int:
+    """Normalises sources."""
+    sources = sources_of(given.operands)
+    is_many = bool(given.output_dir or given.archive)
+    if not sources or len(sources) > 1 and not is_many:
+        raise Usage("it takes one SOURCE; --output-dir and --archive take several")
+    if len(sources) > 1 and given.origin:
+        raise Usage("--origin goes with one zone")
+    if sum(map(bool, (given.output_dir, given.archive, given.output, given.textconv, given.json))) > 1:
+        raise Usage("--output-dir, --archive, --output, --textconv and --json don't go together")
+    reader = reader_of(given, output)
+    if given.textconv:
+        return textconv(sources[0], reader, output)
+    if not is_many:
+        copy = reader.copy(sources[0])
+        if given.json:
+            output.json(object_of(copy, given.fold))
+        elif given.output or not given.quiet:
+            output.result(text_of(copy, given), given.output)
+        return Status.SAME
+    return many(sources, reader, output, lambda copy: written(copy, given, output))
+
+
+def text_of(copy: Copy, given: argparse.Namespace) -> bytes:
+    """Returns the text of a copy as the options want it."""
+    text = folded_text(copy.text) if given.fold else copy.text
+    return engine.presentation(text) if given.presentation else text
+
+
+def object_of(copy: Copy, is_folded: bool) -> dict[str, Any]:
+    """Returns a copy as an object."""
+    text = engine.presentation(folded_text(copy.text) if is_folded else copy.text).decode("ascii", "backslashreplace")
+    lines = (line.split(" ", 4) for line in text.split("\n")[:-1])
+    return {
+        "format": "zonectl-normalise/1", "status": 0, "zone": copy.apex, "class": copy.rdclass, "serial": copy.serial,
+        "records": [{"owner": owner, "ttl": int(ttl), "class": rdclass, "type": kind, "rdata": rdata}
+                    for owner, ttl, rdclass, kind, rdata in lines],
+    }
+
+
+def file_name(apex: str) -> str:
+    """Returns the name of a zone as that of a file. It has no `/`, and isn't `..`, since no label is empty."""
+    return apex.removesuffix(".").replace("/", "_") or "root"
+
+
+def many(sources: list[Source], reader: Reader, output: Output, work: Callable[[Copy], int]) -> int:
+    """Works on one source after another, and returns the greatest status."""
+    worst = 0
+    for source in sources:
+        try:
+            status = work(reader.copy(source))
+        except Failure as failure:
+            output.note(failure.sentence())
+            status = failure.status
+        worst = max(worst, status)
+    return worst
+
+
+def written(copy: Copy, given: argparse.Namespace, output: Output) -> int:
+    """Writes a copy into the folder of the options."""
+    text, folder = text_of(copy, given), given.output_dir or given.archive
+    if given.output_dir:
+        path = os.path.join(folder, f"{file_name(copy.apex)}.zone")
+        if path in given.__dict__.setdefault("paths", set()):
+            raise Undone(f"another source is of {copy.apex} too", copy.source)
+        given.paths.add(path)
+        output.result(text, path)
+        return Status.SAME
+    path = os.path.join(folder, f"{file_name(copy.apex)}.{copy.serial}")
+    if os.path.exists(path):
+        with about(path), open(path, "rb") as file:
+            if file.read() != text:
+                output.result(f"{copy.apex}: {alarm(copy.serial)}\n")
+                return Status.DIFFERENT
+        return Status.SAME
+    output.result(text, path)
+    return Status.SAME
+
+
+def textconv(source: Source, reader: Reader, output: Output) -> int:
+    """Prints a text for git to compare: the file as it is, if it denotes no zone."""
+    if not isinstance(source, File):
+        raise Usage("--textconv takes a file")
+    with about(source.text):
+        octets = stored_octets(source, reader.access)
+    try:
+        text = engine.presentation(reader.copy(source).text)
+    except (Refusal, Undone):
+        text = octets
+    output.result(text)
+    return Status.SAME

@@ -1,0 +1,141 @@
+"""`zonectl sum`: the digest of a zone's canonical text."""
+from __future__ import annotations
+
+import argparse
+import hashlib
+import re
+from collections.abc import Iterator
+from dataclasses import dataclass, replace
+from typing import Any
+
+from .. import engine
+from ..diff_text import alarm
+from ..errors import Failure, Status, Undone, Usage, about
+from ..folding import folded_text
+from ..names import absolute
+from ..options import Parser, add_output, add_sources, reader_of
+from ..outputs import Output
+from ..reading import from_path
+from ..sources import source_of, sources_of
+from ..texts import one_field
+from ..zones import Copy, Reader
+
+ABOUT = """\
+Prints a line for each zone: sha256:HEX canonical-1 SERIAL ZONE SOURCE. HEX is the digest of what `zonectl normalise` prints.
+With --check it reads such lines and says which zones are the same."""
+LINE = re.compile(r"sha256:([0-9a-f]{64}) (\S+) (\d{1,10}) (\S+) (.+)")
+ESCAPED = re.compile(r"\\x([0-9a-f]{2})")
+
+
+@dataclass(frozen=True)
+class Sum:
+    """A line."""
+
+    sha256: str
+    canonical: str
+    serial: int
+    zone: str
+    source: str
+
+    def __str__(self) -> str:
+        return f"sha256:{self.sha256} {self.canonical} {self.serial} {self.zone} {one_field(self.source)}"
+
+
+def parser() -> Parser:
+    """Returns the parser."""
+    made = Parser("sum", "[OPTION].. SOURCE..\n       zonectl sum [OPTION].. --check FILE", ABOUT)
+    made.option("--fold", action="store_true", help="names in RDATA in lower case too")
+    made.option("--check", metavar="FILE", help="compare zones with the lines of FILE (- is standard input)")
+    add_output(made)
+    add_sources(made)
+    return made
+
+
+def sum_of(copy: Copy, is_folded: bool) -> Sum:
+    """Returns the digest of a copy."""
+    text = folded_text(copy.text) if is_folded else copy.text
+    canonical = engine.CANONICAL + "-folded" * is_folded
+    return Sum(hashlib.sha256(text).hexdigest(), canonical, copy.serial, copy.apex, copy.source)
+
+
+def run(given: argparse.Namespace, output: Output) -> int:
+    """Prints digests, or compares with those of a file."""
+    if given.check is not None:
+        if given.operands or given.origin or given.fold:
+            raise Usage("with --check the lines name sources, zones and the text")
+        return check(given, output)
+    sources = sources_of(given.operands)
+    if not sources:
+        raise Usage("a SOURCE is missing")
+    if len(sources) > 1 and given.origin:
+        raise Usage("--origin goes with one zone")
+    reader, worst, found = reader_of(given, output), 0, []
+    for source in sources:
+        try:
+            copy = reader.copy(source)
+            found.append((copy, sum_of(copy, given.fold)))
+        except Failure as failure:
+            output.note(failure.sentence())
+            worst = max(worst, failure.status)
+    if given.json:
+        sums = [{**object_of(it), "records": copy.records} for copy, it in found]
+        output.json({"format": "zonectl-sum/1", "status": int(worst), "sums": sums}, given.output)
+    elif given.output or not (given.quiet and not worst):
+        output.result("".join(f"{it}\n" for _, it in found), given.output)
+    return worst
+
+
+def object_of(it: Sum) -> dict[str, Any]:
+    """Returns a digest as an object."""
+    return {"source": it.source, "zone": it.zone, "serial": it.serial, "records": None, "canonical": it.canonical, "sha256": it.sha256}
+
+
+def stored(path: str, reader: Reader) -> Iterator[Sum]:
+    """Yields the lines of a file. Raises Undone at one that isn't such a line."""
+    with about(path):
+        text = from_path("/dev/stdin" if path == "-" else path, reader.access.limits).decode("utf-8", "surrogateescape")
+    for number, line in enumerate(text.split("\n"), 1):
+        if not line.strip() or line.startswith("#"):
+            continue
+        found = LINE.fullmatch(line)
+        if not found:
+            raise Undone("it isn't a line of zonectl sum", path, line=number)
+        if found[2] not in (engine.CANONICAL, f"{engine.CANONICAL}-folded"):
+            raise Undone(f"the text {found[2]} isn't one that this version writes", path, line=number)
+        octets = found[5].encode("utf-8", "surrogateescape").decode("latin-1")
+        source = ESCAPED.sub(lambda it: chr(int(it[1], 16)), octets).encode("latin-1").decode("utf-8", "surrogateescape")
+        yield Sum(found[1], found[2], int(found[3]), found[4], source)
+
+
+def check(given: argparse.Namespace, output: Output) -> int:
+    """Compares zones with stored digests, a line each."""
+    reader = reader_of(given, output)
+    worst, lines, sums = 0, [], []
+    for it in list(stored(given.check, reader)):
+        try:
+            copy = replace(reader, origin=_origin(it)).copy(source_of(it.source))
+            if copy.apex != it.zone:
+                raise Undone(f"it is the zone {copy.apex}, and was {it.zone}", it.source)
+            now = sum_of(copy, it.canonical.endswith("-folded"))
+        except Failure as failure:
+            output.note(failure.sentence())
+            worst = max(worst, failure.status)
+            continue
+        result = "same" if now == it else alarm(it.serial) if now.serial == it.serial else \
+            f"different: serial {now.serial}, was {it.serial}"
+        worst = max(worst, 0 if now == it else 1)
+        lines.append(f"{one_field(it.source)}: {result}\n")
+        sums.append({**object_of(now), "records": copy.records, "result": result.split(":")[0] if now.serial != it.serial else
+                     "same" if now == it else "one-serial"})
+    if given.json:
+        output.json({"format": "zonectl-sum/1", "status": int(worst), "sums": sums}, given.output)
+    elif given.output or not (given.quiet and not worst):
+        output.result("".join(lines), given.output)
+    return worst
+
+
+def _origin(it: Sum) -> str | None:
+    try:
+        return absolute(it.zone)
+    except ValueError:
+        return None

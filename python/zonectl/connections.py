@@ -1,0 +1,198 @@
+"""TCP and TLS connections of which every wait is bounded.
+
+TLS is 1.3 and verifies the server by default: the system's certificates or those of a file, and the server's name.
+"""
+from __future__ import annotations
+
+import errno
+import io
+import socket
+import ssl
+import threading
+from collections.abc import Iterator, Sequence
+from contextlib import contextmanager
+from dataclasses import dataclass
+from typing import Any
+
+from .bounds import Clock
+from .errors import Undone, Usage, system_reason
+from .texts import duration
+
+REASONS = {
+    errno.ECONNREFUSED: "the connection was refused",
+    errno.ECONNRESET: "the connection was reset",
+    errno.EPIPE: "the connection was closed",
+    errno.EHOSTUNREACH: "there is no route to the host",
+    errno.ENETUNREACH: "the network is unreachable",
+    errno.ETIMEDOUT: "the connection timed out",
+}
+
+
+class Unreached(Undone):
+    """Why a server can't be reached."""
+
+
+@dataclass(frozen=True)
+class Trust:
+    """How a server proves who it is, and this side too."""
+
+    ca: str | None = None  # certificates to trust instead of the system's, a file in PEM
+    name: str | None = None  # the name in the certificate, if it isn't the host's
+    client: str | None = None  # a certificate and its key for servers that ask for one, a file in PEM
+    verifies: bool = True
+
+    def context(self, protocol: str) -> ssl.SSLContext:
+        """Returns how TLS is spoken for a protocol of ALPN: `dot` (RFC 9103 section 7) or `http/1.1`.
+
+        Whether the server says so too isn't asked: NSD 4.6 doesn't. Raises Usage where a file can't be used.
+        """
+        context = ssl.SSLContext(ssl.PROTOCOL_TLS_CLIENT)
+        context.minimum_version = ssl.TLSVersion.TLSv1_3 if protocol == "dot" else ssl.TLSVersion.TLSv1_2
+        context.set_alpn_protocols([protocol])
+        if not self.verifies:
+            context.check_hostname, context.verify_mode = False, ssl.CERT_NONE
+        elif self.ca:
+            with _using(self.ca, "certificates"):
+                context.load_verify_locations(self.ca)
+        else:
+            context.load_default_certs()
+        if self.client:
+            with _using(self.client, "a client certificate and its key"):
+                context.load_cert_chain(self.client, password=lambda: "")
+        return context
+
+
+@contextmanager
+def _using(path: str, what: str) -> Iterator[None]:
+    try:
+        yield
+    except ssl.SSLError:
+        raise Usage(f"{path} doesn't hold {what} in PEM") from None
+    except OSError as error:
+        raise Undone(f"it can't be read: {system_reason(error)}", path) from None
+
+
+def network_reason(error: OSError) -> str:
+    """Returns what went wrong with a connection, for people."""
+    if isinstance(error, ssl.SSLCertVerificationError):
+        return f"its certificate isn't trusted: {error.verify_message.rstrip('.')}"
+    if isinstance(error, ssl.SSLError):
+        reason = (error.reason or "").replace("_", " ").lower()
+        return f"TLS failed: {reason}" if reason else "TLS failed: the connection ended"
+    return REASONS.get(error.errno or 0) or system_reason(error)
+
+
+class Connection:
+    """A connection to a server."""
+
+    def __init__(self, connected: socket.socket, clock: Clock) -> None:
+        self.socket, self.clock = connected, clock
+
+    @contextmanager
+    def _waiting(self) -> Iterator[None]:
+        self.socket.settimeout(self.clock.wait())
+        try:
+            yield
+        except TimeoutError:
+            raise self.clock.silence() from None
+        except OSError as error:
+            raise Undone(network_reason(error)) from None
+
+    def recv(self, count: int) -> bytes:
+        """Returns the next octets, at most `count`; none at the end."""
+        with self._waiting():
+            return self.socket.recv(count)
+
+    def sendall(self, octets: bytes | bytearray | memoryview) -> None:
+        """Sends octets."""
+        with self._waiting():
+            self.socket.sendall(octets)
+
+    def makefile(self, _mode: str) -> io.BufferedReader:
+        """Returns the connection as a file to read, as http.client wants it."""
+        return io.BufferedReader(_Raw(self))
+
+    def close(self) -> None:
+        """Closes the connection. Nothing is sent."""
+        self.socket.close()
+
+
+class _Raw(io.RawIOBase):
+    """The octets of a connection as a raw file."""
+
+    def __init__(self, connection: Connection) -> None:
+        self.connection = connection
+
+    def readable(self) -> bool:
+        return True
+
+    def readinto(self, room: Any) -> int:
+        octets = self.connection.recv(len(room))
+        room[: len(octets)] = octets
+        return len(octets)
+
+
+def addresses(host: str, port: int, clock: Clock) -> Sequence[tuple[Any, ...]]:
+    """Returns the addresses of a host. A name is looked up in a thread, since nothing else bounds how long that takes."""
+
+    try:
+        return socket.getaddrinfo(host, port, type=socket.SOCK_STREAM, flags=socket.AI_NUMERICHOST)
+    except (OSError, UnicodeError):
+        pass
+    found: list[Sequence[tuple[Any, ...]]] = []
+
+    def look_up() -> None:
+        try:
+            found.append(socket.getaddrinfo(host, port, type=socket.SOCK_STREAM))
+        except (OSError, UnicodeError):
+            found.append([])
+
+    thread = threading.Thread(target=look_up, daemon=True)
+    thread.start()
+    thread.join(clock.wait())
+    if not found:
+        raise clock.silence()
+    if not found[0]:
+        raise Unreached(f"the name {host} has no address")
+    return found[0]
+
+
+def _connected(address: tuple[Any, ...], name: str, context: ssl.SSLContext | None, clock: Clock) -> socket.socket:
+    """Returns a socket that is connected to one address, over TLS if there is a context. Raises OSError."""
+    family, kind, protocol, _, at = address
+    made = socket.socket(family, kind, protocol)
+    try:
+        made.settimeout(clock.wait())
+        made.connect(at)
+        if context:
+            made = context.wrap_socket(made, server_hostname=name, do_handshake_on_connect=False)
+            made.settimeout(clock.wait())
+            made.do_handshake()
+    except BaseException:
+        made.close()
+        raise
+    return made
+
+
+@contextmanager
+def connected(host: str, port: int, name: str, context: ssl.SSLContext | None, clock: Clock) -> Iterator[Connection]:
+    """Connects to a host: its addresses are tried in order. Raises Unreached, or what a deadline raises."""
+    reason = ""
+    for address in addresses(host, port, clock):
+        try:
+            connection = Connection(_connected(address, name, context, clock), clock)
+        except TimeoutError:
+            clock.check(early=0.01)
+            reason = f"no answer within {duration(clock.limits.timeout)} (--timeout)"
+        except ValueError:  # of a name that TLS can't send
+            reason = "its name isn't one that a certificate can have"
+        except OSError as error:
+            reason = network_reason(error)
+        else:
+            break
+    else:
+        raise Unreached(reason)
+    try:
+        yield connection
+    finally:
+        connection.close()

@@ -1,0 +1,118 @@
+"""What a command writes: results, notes and files, each file whole or not at all."""
+from __future__ import annotations
+
+import contextlib
+import json
+import os
+import secrets
+import stat
+import sys
+from collections.abc import Iterator
+from typing import IO, Any
+
+from .errors import Undone, system_reason
+from .texts import are_colours_wanted, safe
+
+
+class Output:
+    """The outputs of a run. Notes are held back where `is_quiet`, until it is known that the status isn't 0."""
+
+    def __init__(self, is_quiet: bool = False, colour: str = "auto") -> None:
+        self.is_quiet, self.colour = is_quiet, colour
+        self.held: list[str] = []
+
+    @property
+    def has_colours(self) -> bool:
+        """Whether standard output gets colours."""
+        return are_colours_wanted(self.colour, sys.stdout)
+
+    def note(self, text: str, source: str | None = None) -> None:
+        """Writes a line to standard error."""
+        line = f"zonectl: {source}: {text}" if source else f"zonectl: {text}"
+        if self.is_quiet:
+            self.held.append(line)
+        else:
+            say(line)
+
+    def end(self, status: int) -> None:
+        """Writes the notes that were held back, if the status isn't 0."""
+        for line in self.held if status else []:
+            say(line)
+        self.held.clear()
+
+    def result(self, text: str | bytes, path: str | None = None) -> None:
+        """Writes a result to a file, or to standard output."""
+        octets = text if isinstance(text, bytes) else text.encode(errors="zonectl")
+        if path is None:
+            to_standard_output(octets)
+            return
+        with whole_file(path) as file:
+            file.write(octets)
+
+    def json(self, found: dict[str, Any], path: str | None = None) -> None:
+        """Writes an object as a line."""
+        self.result(json.dumps(found) + "\n", path)
+
+
+def say(line: str) -> None:
+    """Writes a line to standard error, made safe. Nobody may be there to read it."""
+    with contextlib.suppress(OSError, ValueError):
+        sys.stderr.write(safe(line) + "\n")
+        sys.stderr.flush()
+
+
+def to_standard_output(octets: bytes) -> None:
+    """Writes octets to standard output. Raises Undone; BrokenPipeError where nobody reads them."""
+    try:
+        sys.stdout.flush()
+        sys.stdout.buffer.write(octets)
+        sys.stdout.buffer.flush()
+    except BrokenPipeError:
+        raise
+    except OSError as error:
+        raise Undone(f"standard output can't be written: {system_reason(error)}") from None
+
+
+@contextlib.contextmanager
+def whole_file(path: str) -> Iterator[IO[bytes]]:
+    """Opens a file that appears under its name when all is written, synced; a device or a pipe is written at once.
+
+    Its temporary file is beside it, and is removed where anything fails. Raises Undone.
+    """
+    try:
+        found = os.stat(path)
+    except OSError:
+        found = None
+    try:
+        if found and not stat.S_ISREG(found.st_mode):
+            with open(path, "wb") as file:
+                yield file
+            return
+        with _replaced(path, stat.S_IMODE(found.st_mode) if found else 0o666 & ~_umask()) as file:
+            yield file
+    except OSError as error:
+        raise Undone(f"it can't be written: {system_reason(error)}", path) from None
+
+
+@contextlib.contextmanager
+def _replaced(path: str, mode: int) -> Iterator[IO[bytes]]:
+    path = os.path.realpath(path)
+    beside = f"{path}.{secrets.token_hex(4)}"
+    descriptor = os.open(beside, os.O_WRONLY | os.O_CREAT | os.O_EXCL | os.O_CLOEXEC, 0o600)
+    try:
+        with open(descriptor, "wb") as file:
+            yield file
+            file.flush()
+            os.fsync(descriptor)
+            os.fchmod(descriptor, mode)
+        os.rename(beside, path)
+    except BaseException:
+        with contextlib.suppress(OSError):
+            os.unlink(beside)
+        raise
+
+
+def _umask() -> int:
+    mask = os.umask(0o077)
+    os.umask(mask)
+    return mask

@@ -1,0 +1,229 @@
+"""Reads the octets of a source, within its limits of size and time, and says what they are: a master file or a transfer."""
+from __future__ import annotations
+
+import os
+import re
+import select
+import stat
+import subprocess
+import zlib
+from collections.abc import Callable
+from dataclasses import dataclass, field
+
+from . import dig
+from .bounds import Clock, Limits
+from .connections import Trust, connected
+from .errors import Refusal, Undone, Usage
+from .names import wire_name
+from .sources import File, Git, Server, Source, Standard, Web
+from .transfer import Query, Taken, ask
+from .tsig import Key
+
+PIECE, BLOCK = 1 << 20, 1 << 14
+GZIP = b"\x1f\x8b\x08"
+BYTE_ORDER_MARK = b"\xef\xbb\xbf"
+# First octets of what is no master file, what it is and what to do.
+OTHER_FORMATS = (
+    (rb"\xfd7zXZ\0", "it is xz: unpack it (xz -dc) and give it as -"),
+    (rb"BZh[1-9](?:1AY&SY|\x17\x72\x45\x38)", "it is bzip2: unpack it (bzip2 -dc) and give it as -"),
+    (rb"\x28\xb5\x2f\xfd", "it is zstd: unpack it (zstd -dc) and give it as -"),
+    (rb"PK(?:\x03\x04|\x05\x06|\x07\x08)", "it is zip: unpack it (unzip -p) and give it as -"),
+    (rb"\xd4\xc3\xb2\xa1|\xa1\xb2\xc3\xd4|\x4d\x3c\xb2\xa1|\xa1\xb2\x3c\x4d", "it is pcap: capture the transfer with zonectl fetch"),
+    (rb"\x0a\x0d\x0d\x0a(?s:.{4})(?:\x4d\x3c\x2b\x1a|\x1a\x2b\x3c\x4d)", "it is pcapng: capture the transfer with zonectl fetch"),
+    (rb"\xff\xfe|\xfe\xff", "it is UTF-16: convert it (iconv -f UTF-16 -t UTF-8) and give it as -"),
+    (rb"\0\0\0[\x02\x03]\0\0\0[\0\x01]", "it is BIND's raw format: write it as text (named-compilezone -f raw -F text)"),
+    (rb";BIND LOG V9", "it is a journal of BIND: call rndc sync and read the zone's file"),
+)
+
+
+@dataclass(frozen=True)
+class Access:
+    """How sources are reached: keys by name in wire format, what TLS trusts, and limits."""
+
+    limits: Limits = field(default_factory=Limits)
+    keys: dict[bytes, Key] = field(default_factory=dict)
+    trust: Trust = field(default_factory=Trust)
+    warn: Callable[[str], object] = lambda text: None
+
+    def key_of(self, server: Server) -> Key | None:
+        """Returns the key that signs the query to a server: that of `KEY@`, or the only one. Raises Usage."""
+        if server.key is not None:
+            key = self.keys.get(wire_name(server.key).lower())
+            if not key:
+                raise Usage(f"no key file has the key {server.key} (--key FILE)", server.text)
+            return key
+        if len(self.keys) > 1:
+            raise Usage("there are several keys: axfr://KEY@HOST/ZONE says which one signs", server.text)
+        return next(iter(self.keys.values()), None)
+
+
+@dataclass(frozen=True)
+class Read:
+    """What was read: a master file, or the messages of a transfer, each after its length."""
+
+    octets: bytes
+    is_transfer: bool
+
+
+def read(source: Source, access: Access) -> Read:
+    """Reads a source. Raises Failure or OSError."""
+    if isinstance(source, Server):
+        kept = bytearray()
+        transferred(source, access, kept.extend)
+        return Read(bytes(kept), True)
+    octets = stored_octets(source, access)
+    if octets.startswith(GZIP):
+        octets = unpacked(octets, access.limits)
+    form = source.form if isinstance(source, File) else ""
+    return _recognised(octets, form, access)
+
+
+def _recognised(octets: bytes, form: str, access: Access) -> Read:
+    if form == "capture":
+        return Read(octets, True)
+    for first, text in OTHER_FORMATS:
+        if re.match(first, octets):
+            raise Refusal(text)
+    if form != "file" and form != "dig" and is_capture(octets):
+        return Read(octets, True)
+    if octets.startswith(BYTE_ORDER_MARK):
+        access.warn("a byte order mark is skipped, for which servers refuse the file")
+        octets = octets[len(BYTE_ORDER_MARK) :]
+    return Read(dig.master_file(octets) if form == "dig" else octets, False)
+
+
+def is_capture(octets: bytes) -> bool:
+    """Whether octets are messages after their lengths: QR is set, the opcode is 0 and there is at most one question."""
+    return len(octets) > 7 and octets[4] & 0xF8 == 0x80 and octets[6] == 0 and octets[7] <= 1
+
+
+def unpacked(octets: bytes, limits: Limits) -> bytes:
+    """Returns what is in a gzip file, of all its members. Raises Refusal or Undone."""
+    found, clock, member = bytearray(), limits.clock("unpacking"), zlib.decompressobj(wbits=31)
+    is_begun = True  # whether a member has begun and hasn't ended
+    for at in range(0, len(octets), BLOCK):
+        block = octets[at : at + BLOCK]
+        while block:
+            if not is_begun:
+                block = block.lstrip(b"\0")  # which may fill a block of a tape
+                member, is_begun = zlib.decompressobj(wbits=31), bool(block)
+            try:
+                found += member.decompress(block, PIECE)
+            except zlib.error:
+                raise Refusal("the gzip file is broken") from None
+            clock.check()
+            if len(found) > limits.max_size:
+                raise limits.too_large()
+            is_begun = is_begun and not member.eof
+            block = member.unconsumed_tail if is_begun else member.unused_data
+    if is_begun:
+        raise Refusal("the gzip file is cut off")
+    if found.startswith(GZIP):
+        raise Refusal("it is gzip inside gzip; one level is read")
+    return bytes(found)
+
+
+def stored_octets(source: Source, access: Access) -> bytes:
+    """Returns the octets of a source that isn't a transfer, as they are. Raises Failure or OSError."""
+    match source:
+        case Standard():
+            return from_descriptor(0, access.limits)
+        case File(path=path):
+            return from_path(path, access.limits)
+        case Git():
+            return from_git(source, access.limits)
+        case Web():
+            from .web import download  # http.client takes 20 ms
+
+            return download(source.url, access.limits, access.trust)
+    raise AssertionError(source)
+
+
+def from_path(path: str, limits: Limits) -> bytes:
+    """Returns the octets of a regular file or a pipe. Raises Undone or OSError."""
+    descriptor = os.open(path, os.O_RDONLY | os.O_NONBLOCK | os.O_CLOEXEC | os.O_NOCTTY)
+    try:
+        mode = os.fstat(descriptor).st_mode
+        if not stat.S_ISREG(mode) and not stat.S_ISFIFO(mode):
+            raise Undone("it is a folder" if stat.S_ISDIR(mode) else "it is neither a file nor a pipe")
+        return from_descriptor(descriptor, limits)
+    finally:
+        os.close(descriptor)
+
+
+def from_descriptor(descriptor: int, limits: Limits) -> bytes:
+    """Returns the octets of an open file. A pipe and a terminal may take until the deadline."""
+    clock, found = limits.clock("reading"), bytearray()
+    poll = None if stat.S_ISREG(os.fstat(descriptor).st_mode) else select.poll()
+    if poll:
+        poll.register(descriptor, select.POLLIN)
+    while True:
+        if poll:
+            _until_ready(poll, clock)
+        piece = os.read(descriptor, PIECE)
+        found += piece
+        if len(found) > limits.max_size:
+            raise limits.too_large()
+        if not piece:
+            return bytes(found)
+
+
+def _until_ready(poll: select.poll, clock: Clock) -> None:
+    while True:
+        left = clock.left()
+        if poll.poll(None if left is None else left * 1000 + 1):
+            return
+
+
+def from_git(source: Git, limits: Limits) -> bytes:
+    """Returns a blob of git. No shell runs, and git asks nothing. Raises Undone."""
+    environment = {**os.environ, "GIT_TERMINAL_PROMPT": "0", "LC_ALL": "C"}
+    try:
+        git = subprocess.Popen(
+            ["git", "cat-file", "blob", f"{source.revision}:{source.path}"], stdin=subprocess.DEVNULL, stdout=subprocess.PIPE,
+            stderr=subprocess.PIPE, env=environment)
+    except OSError:
+        raise Undone("git can't be run: is it installed?") from None
+    with git:
+        try:
+            found, said = _both_of(git, limits)
+        except BaseException:
+            git.kill()
+            raise
+        if git.wait():
+            lines = said.decode("utf-8", "surrogateescape").splitlines()
+            raise Undone(lines[0].removeprefix("fatal: ").removeprefix("error: ") if lines else "git failed")
+    return found
+
+
+def _both_of(git: subprocess.Popen[bytes], limits: Limits) -> tuple[bytes, bytes]:
+    """Returns what git writes on both outputs, until it closes them."""
+    assert git.stdout and git.stderr
+    clock, poll = limits.clock("git"), select.poll()
+    found = {git.stdout.fileno(): bytearray(), git.stderr.fileno(): bytearray()}
+    for descriptor in found:
+        poll.register(descriptor, select.POLLIN)
+    still = len(found)
+    while still:
+        left = clock.left()
+        for descriptor, _ in poll.poll(None if left is None else left * 1000 + 1):
+            piece = os.read(descriptor, PIECE)
+            found[descriptor] += piece
+            if not piece:
+                poll.unregister(descriptor)
+                still -= 1
+            if len(found[descriptor]) > limits.max_size:
+                raise limits.too_large()
+    out, said = found.values()
+    return bytes(out), bytes(said)
+
+
+def transferred(source: Server, access: Access, sink: Callable[[bytes], object]) -> Taken:
+    """Asks a server for a zone and hands the messages to `sink`. Raises Failure."""
+    key = access.key_of(source)
+    context = access.trust.context("dot") if source.is_tls else None
+    clock = access.limits.clock("the transfer")
+    query = Query(wire_name(source.zone).lower(), source.class_number)
+    with connected(source.host, source.port, access.trust.name or source.host, context, clock) as connection:
+        return ask(connection, query, key, access.limits, sink)
+

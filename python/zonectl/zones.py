@@ -1,0 +1,130 @@
+"""Copies of zones: a source is read, its origin found, and the engine asked for its canonical text."""
+from __future__ import annotations
+
+import urllib.parse
+from collections.abc import Callable
+from dataclasses import dataclass, field
+from typing import cast
+
+from . import engine, origin
+from .errors import Refusal, Undone, about
+from .names import class_name, shown_name
+from .reading import Access, Read, read
+from .sources import File, Git, Server, Source, Web, zone_of_url
+
+
+@dataclass(frozen=True)
+class Copy:
+    """A copy of a zone. `source` is the argument that names it."""
+
+    source: str
+    text: bytes  # the canonical text
+    is_transfer: bool = False
+    decoder: str = "engine"
+    soa: list[str] = field(init=False, repr=False, compare=False)
+
+    def __post_init__(self) -> None:
+        object.__setattr__(self, "soa", self.text[: self.text.index(b"\n")].decode("ascii").split(" "))
+
+    @property
+    def apex(self) -> str:
+        """The owner of the SOA record."""
+        return self.soa[0]
+
+    @property
+    def rdclass(self) -> str:
+        """The class of all records."""
+        return self.soa[2]
+
+    @property
+    def serial(self) -> int:
+        """The serial of the SOA record."""
+        return int(self.soa[6])
+
+    @property
+    def records(self) -> int:
+        """How many records it has."""
+        return self.text.count(b"\n")
+
+
+@dataclass(frozen=True)
+class Reader:
+    """How sources become copies. `origin` and `origin_from` are the options; `warn` takes a source and a text."""
+
+    access: Access
+    origin: str | None = None
+    origin_from: str | None = None
+    require_zonemd: bool = False
+    warn: Callable[[str, str], object] = lambda source, text: None
+
+    def copy(self, source: Source, fallback: str | None = None) -> Copy:
+        """Reads a source. `fallback` is the origin of a file without evidence. Raises Failure."""
+        with about(source.text):
+            it = read(source, self._access(source))
+            copy = self._of_transfer(source, it) if it.is_transfer else self._of_file(source, it, fallback)
+            if self.require_zonemd and copy.is_transfer and (why := engine.verify(copy.text)):
+                raise Refusal(why)
+            return copy
+
+    def pair(self, first: Source, second: Source) -> tuple[Copy, Copy]:
+        """Reads two sources of one zone. Files come before servers, which aren't asked for another zone. Raises Failure."""
+        urls = [shown_name(it) if it else None for it in map(zone_of_url, (first, second))]
+        known, copies = [*urls], cast("list[Copy | None]", [None, None])
+        for at in sorted((0, 1), key=lambda at: urls[at] is not None):
+            if all(known):
+                _must_be_one((first.text, known[0]), (second.text, known[1]))
+            copy = copies[at] = self.copy((first, second)[at], urls[1 - at])
+            known[at] = copy.apex
+        one, other = copies
+        assert one and other
+        _must_be_one((first.text, one.apex), (second.text, other.apex))
+        if one.rdclass != other.rdclass:
+            raise Undone(f"{first.text} is of class {one.rdclass}, {second.text} of class {other.rdclass}: nothing to compare")
+        return one, other
+
+    def _access(self, source: Source) -> Access:
+        access = self.access
+        return Access(access.limits, access.keys, access.trust, lambda text: self.warn(source.text, text))
+
+    def _of_transfer(self, source: Source, it: Read) -> Copy:
+        copy = Copy(source.text, engine.of_transfer(it.octets), is_transfer=True)
+        if isinstance(source, Server):
+            if copy.apex != source.zone:
+                raise Undone(f"the server sent the zone {copy.apex}")
+            if copy.rdclass != class_name(source.class_number):
+                raise Undone(f"the server sent class {copy.rdclass}")
+        elif self.origin and self.origin != copy.apex:
+            self.warn(source.text, f"it is a transfer of {copy.apex}, not of {self.origin}")
+        return copy
+
+    def _of_file(self, source: Source, it: Read, fallback: str | None) -> Copy:
+        name = self.origin or self._evident(source, it.octets, fallback)
+        copy = Copy(source.text, engine.of_file(it.octets, name))
+        if copy.apex != name:
+            text = f"its SOA record is that of {copy.apex}, not of {name}"
+            if not self.origin:
+                raise Undone(f"{text}; give --origin NAME")
+            self.warn(source.text, text)
+        return copy
+
+    def _evident(self, source: Source, octets: bytes, fallback: str | None) -> str:
+        found = origin.Evidence(origin.by_name(path_of(source)), origin.by_text(octets))
+        if fallback and not found.by_name and not found.by_text:
+            return fallback
+        return found.origin(self.origin_from)
+
+
+def path_of(source: Source) -> str:
+    """Returns the path whose last part may name the zone."""
+    match source:
+        case File(path=path) | Git(path=path):
+            return path
+        case Web(url=url):
+            return urllib.parse.unquote(urllib.parse.urlsplit(url).path, "latin-1")
+    return ""
+
+
+def _must_be_one(first: tuple[str, str | None], second: tuple[str, str | None]) -> None:
+    """Raises Undone if two sources are of two zones. Each is its argument and its zone."""
+    if first[1] != second[1]:
+        raise Undone(f"{first[0]} is the zone {first[1]}, {second[0]} the zone {second[1]}: nothing to compare")
