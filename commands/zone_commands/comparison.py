@@ -1,40 +1,30 @@
 """Compares the master file of a zone with what a server sends of it, or sent."""
 import argparse
 import contextlib
-import re
 import shutil
 import time
 from dataclasses import dataclass, field
 from typing import NamedTuple
 
+from zonectl import types
+from zonectl.dig import is_whole
+from zonectl.errors import Failure
+from zonectl.types import OF_SIGNERS, TYPES
+
 from .running import (
     DIFFERENT, FAILED, PROGRAMS, REFUSED, SAME, WRONG, ZONEDIGEST, ZONENORM, ZONEWORDS, Failed,
     count, has_mark, taken,
 )
-from .transfer import Stopped
 
-# The types that have words (IANA, "Resource Record (RR) TYPEs").
-TYPES = dict(
-    A=1, NS=2, CNAME=5, SOA=6, PTR=12, HINFO=13, MX=15, TXT=16, RP=17, AFSDB=18, X25=19, ISDN=20,
-    RT=21, KEY=25, AAAA=28, LOC=29, SRV=33, NAPTR=35, KX=36, CERT=37, DNAME=39, APL=42, DS=43,
-    SSHFP=44, IPSECKEY=45, RRSIG=46, NSEC=47, DNSKEY=48, DHCID=49, NSEC3=50, NSEC3PARAM=51, TLSA=52,
-    SMIMEA=53, HIP=55, CDS=59, CDNSKEY=60, OPENPGPKEY=61, CSYNC=62, ZONEMD=63, SVCB=64, HTTPS=65,
-    SPF=99, NID=104, L32=105, L64=106, LP=107, EUI48=108, EUI64=109, URI=256, CAA=257, AMTRELAY=260,
-)
-OF_SIGNERS = {46, 47, 48, 50, 51, 59, 60, 63, 65534}
-# What dig says of a transfer that failed.
-TROUBLE = re.compile(rb"; Transfer failed|;; Couldn.t verify|;; WARNING -- Some TSIG")
 PIECE = 1 << 20
 
 
 def type_number(text):
-    """The number of a type, from its word or from one as TYPE257."""
-    word = text.upper()
-    digits = re.fullmatch("TYPE([0-9]{1,5})", word)
-    number = int(digits[1]) if digits else TYPES.get(word, 65536)
-    if number > 65535:
-        raise argparse.ArgumentTypeError(f"not a type: {text}")
-    return number
+    """The number of a type, from its mnemonic or from one as TYPE257."""
+    try:
+        return types.type_number(text)
+    except ValueError as error:
+        raise argparse.ArgumentTypeError(str(error)) from None
 
 
 def add_options(words):
@@ -89,25 +79,6 @@ class Result:
     def is_under_one_serial(self):
         """Whether the zones differ and no secondary can see it."""
         return self.status == DIFFERENT and len(set(self.serials)) == 1
-
-
-def is_whole(text, kept):
-    """Copies what dig wrote without its lines of TSIG, each line in its place. False where one SOA
-    isn't its first record and its last and nothing between, or where dig says that it failed."""
-    first, last, soas, is_soa = b"", b"", 0, False
-    for line in text:
-        words = line.split()
-        if TROUBLE.match(line):
-            return False
-        if words[2:3] in ([b"ANY"], [b"CLASS255"]) and words[3:4] in ([b"TSIG"], [b"TYPE250"]):
-            line, words = b"\n", []
-        kept.write(line)
-        if words and not words[0].startswith(b";"):
-            last = line.rstrip(b"\n")
-            first = first or last
-            is_soa = words[3:4] in ([b"SOA"], [b"TYPE6"])
-            soas += is_soa
-    return soas == 2 and is_soa and first == last
 
 
 class Text(NamedTuple):
@@ -299,8 +270,8 @@ class Sent:
             yield
         except ValueError as error:
             raise Failed(WRONG, str(error)) from None
-        except Stopped as reason:
-            raise Failed(FAILED, f"{self.server}: {reason}") from None
+        except Failure as reason:
+            raise Failed(FAILED, f"{self.server}: {reason.text}") from None
 
     def text(self, zone, comparing):
         stream = comparing.path("stream")

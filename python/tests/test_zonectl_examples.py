@@ -1,0 +1,63 @@
+"""The examples of zonectl's specification, to the byte: zonectl_session.txt, run by sh in a copy of examples/."""
+from __future__ import annotations
+
+import os
+import shutil
+import stat
+import subprocess
+import sys
+from collections.abc import Iterator
+
+from zonectl_support import EXAMPLES, HERE, InFolder, drips, environment, sends, serving
+
+SESSION = HERE / "zonectl_session.txt"
+AXFR = (EXAMPLES / "example.axfr").read_bytes()
+
+
+def session() -> Iterator[tuple[str, str]]:
+    """Yields each command with what it writes on both outputs and its status, as `[N]`."""
+    command, lines = "", []
+    for line in SESSION.read_text().splitlines():
+        if line.startswith("$ "):
+            command, lines = line[2:], []
+        elif command:
+            lines.append(line)
+            if line.startswith("[") and line.endswith("]") and line[1:-1].isdigit():
+                yield command, "\n".join(lines)
+                command = ""
+
+
+class Examples(InFolder):
+    def setUp(self) -> None:
+        super().setUp()
+        for path in EXAMPLES.iterdir():
+            if path.is_file():
+                shutil.copy(path, self.folder)
+        program = self.folder / "bin/zonectl"
+        program.parent.mkdir()
+        program.write_text(f'#!/bin/sh\nexec {sys.executable} -m zonectl "$@"\n')
+        program.chmod(program.stat().st_mode | stat.S_IXUSR)
+
+    def run_by_sh(self, command: str) -> str:
+        """Returns what a command writes and its status."""
+        path = f"{self.folder / 'bin'}{os.pathsep}{os.environ['PATH']}"
+        it = subprocess.run(
+            ["sh", "-c", command], stdout=subprocess.PIPE, stderr=subprocess.STDOUT, stdin=subprocess.DEVNULL, timeout=60,
+            env=environment(PATH=path))
+        return f"{it.stdout.decode()}[{it.returncode}]"
+
+    def test_each_example(self) -> None:
+        with serving(sends(AXFR)) as server, serving(drips(AXFR)) as dripping:
+            names = {"192.0.2.53": f"127.0.0.1:{server.port}", "192.0.2.99": f"127.0.0.1:{dripping.port}"}
+            for number, (command, wanted) in enumerate(session()):
+                with self.subTest(command):
+                    for name, at in names.items():
+                        command, wanted = command.replace(f"//{name}/", f"//{at}/"), wanted.replace(f"//{name}/", f"//{at}/")
+                    self.assertEqual(self.run_by_sh(command), wanted)
+            self.assertGreater(number, 15)
+            self.assertEqual(len(dripping.queries), 1)
+
+    def test_what_comes_later_says_so(self) -> None:
+        for name in ("check", "zonemd", "fleet"):
+            with self.subTest(name):
+                self.assertEqual(self.run_by_sh(f"zonectl {name}"), f"zonectl: the subcommand {name} isn't in this version\n[2]")
