@@ -16,7 +16,8 @@ AXFR = (EXAMPLES / "example.axfr").read_bytes()
 
 def session() -> Iterator[tuple[str, str]]:
     """Yields each command with what it writes on both outputs and its status, as `[N]`."""
-    command, lines = "", []
+    command = ""
+    lines: list[str] = []
     for line in SESSION.read_text().splitlines():
         if line.startswith("$ "):
             command, lines = line[2:], []

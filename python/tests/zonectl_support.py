@@ -130,6 +130,7 @@ def silent(connection: socket.socket, query: bytes, server: Server) -> None:
 def reset(connection: socket.socket, query: bytes, server: Server) -> None:
     """A server that resets the connection."""
     connection.setsockopt(socket.SOL_SOCKET, socket.SO_LINGER, struct.pack("ii", 1, 0))
+    connection.close()
 
 
 class Server(socketserver.ThreadingTCPServer):

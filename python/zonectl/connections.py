@@ -184,10 +184,10 @@ def connected(host: str, port: int, name: str, context: ssl.SSLContext | None, c
         except TimeoutError:
             clock.check(early=0.01)
             reason = f"no answer within {duration(clock.limits.timeout)} (--timeout)"
-        except ValueError:  # of a name that TLS can't send
-            reason = "its name isn't one that a certificate can have"
         except OSError as error:
             reason = network_reason(error)
+        except ValueError:  # of a name that TLS can't send
+            reason = "its name isn't one that a certificate can have"
         else:
             break
     else:

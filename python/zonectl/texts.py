@@ -69,7 +69,7 @@ def size(octets: int) -> str:
 def duration(seconds: float) -> str:
     """Returns a time: `0.42 s`, `30 s`, `3m20s`."""
     if seconds < 60:
-        return f"{seconds:.0f} s" if seconds == int(seconds) else f"{seconds:.2f} s"
+        return f"{seconds:.0f} s" if seconds and seconds == int(seconds) else f"{seconds:.2f} s"
     minutes, rest = divmod(round(seconds), 60)
     hours, minutes = divmod(minutes, 60)
     return f"{hours}h{minutes:02d}m{rest:02d}s" if hours else f"{minutes}m{rest:02d}s"

@@ -12,7 +12,7 @@ from typing import NamedTuple, Protocol
 
 from .bounds import Limits
 from .errors import Failure, Refusal, Undone
-from .messages import AXFR, Malformed, question, soas_among_answers
+from .messages import AXFR, HEADER, Malformed, question, soas_among_answers
 from .tsig import BadSignature, Key, Signatures, key_error, named
 
 PIECE = 1 << 16
@@ -86,6 +86,8 @@ class Frames:
 
 def must_answer(message: bytes, query: Query) -> None:
     """Refuses a message with another ID (RFC 5936 2.2.1), an error code or another question."""
+    if len(message) < HEADER:
+        raise Stopped("a message ends too early")
     if message[:2] != query.ident:
         raise Stopped("a message answers another query: its ID isn't that of this one")
     code = message[3] & 15

@@ -1,0 +1,34 @@
+# Completion of zonectl for bash. `zonectl completion bash` makes it from the parsers.
+_zonectl() {
+    local word=${COMP_WORDS[COMP_CWORD]} before=${COMP_WORDS[COMP_CWORD - 1]} options=''
+    COMPREPLY=()
+    if [ "$COMP_CWORD" -eq 1 ]; then
+        mapfile -t COMPREPLY < <(compgen -W 'completion diff fetch normalise normalize sum --help --version -V -h' -- "$word")
+        return
+    fi
+    case $before in
+        --color) mapfile -t COMPREPLY < <(compgen -W 'auto always never' -- "$word") && return ;;
+        --origin-from) mapfile -t COMPREPLY < <(compgen -W 'name text' -- "$word") && return ;;
+        --format) mapfile -t COMPREPLY < <(compgen -W 'text json patch nsupdate github' -- "$word") && return ;;
+        --ignore) mapfile -t COMPREPLY < <(compgen -W 'serial ttl dnssec' -- "$word") && return ;;
+        -i) mapfile -t COMPREPLY < <(compgen -W 'serial ttl dnssec' -- "$word") && return ;;
+        --lines) mapfile -t COMPREPLY < <(compgen -W 'all' -- "$word") && return ;;
+        -n) mapfile -t COMPREPLY < <(compgen -W 'all' -- "$word") && return ;;
+    esac
+    case ${COMP_WORDS[1]} in
+        completion) options='--color --help --output --quiet --version -V -h -o -q' ;;
+        diff) options='--color --deadline --exact --format --help --ignore --json --key --lines --max-size --origin --origin-from --output --parts --presentation --quiet --require-zonemd --run-deadline --timeout --tls-ca --tls-client --tls-name --tls-no-verify --version -O -V -e -h -i -k -n -o -p -q -t -z' ;;
+        fetch) options='--color --deadline --help --json --key --max-size --output --partial --quiet --run-deadline --timeout --tls-ca --tls-client --tls-name --tls-no-verify --version -V -h -k -o -q -t' ;;
+        normalise) options='--archive --color --deadline --fold --help --json --key --max-size --origin --origin-from --output --output-dir --presentation --quiet --run-deadline --textconv --timeout --tls-ca --tls-client --tls-name --tls-no-verify --version -O -V -h -k -o -p -q -t' ;;
+        normalize) options='--archive --color --deadline --fold --help --json --key --max-size --origin --origin-from --output --output-dir --presentation --quiet --run-deadline --textconv --timeout --tls-ca --tls-client --tls-name --tls-no-verify --version -O -V -h -k -o -p -q -t' ;;
+        sum) options='--check --color --deadline --fold --help --json --key --max-size --origin --origin-from --output --quiet --run-deadline --timeout --tls-ca --tls-client --tls-name --tls-no-verify --version -O -V -h -k -o -q -t' ;;
+    esac
+    case $word in
+        -*) mapfile -t COMPREPLY < <(compgen -W "$options" -- "$word") ;;
+        *)
+            compopt -o filenames 2> /dev/null
+            mapfile -t COMPREPLY < <(compgen -f -- "$word")
+            ;;
+    esac
+}
+complete -F _zonectl zonectl
