@@ -130,8 +130,8 @@ class Differences(InFolder):
         lit = ran("diff", "--color=always", "a", "b").out
         self.assertEqual(lit.splitlines()[0], "\x1b[1;31mDIFFERENT UNDER ONE SERIAL 1\x1b[0m")
         self.assertIn("\x1b[32m  + 60 A 192.0.2.1\x1b[0m\n", lit)
-        for more, wanted in (({}, lit), ({"NO_COLOR": "1"}, plain), ({"TERM": "dumb"}, plain)):
-            given = environment(**{"TERM": "xterm", "NO_COLOR": "", **more})
+        for term, no_color, wanted in (("xterm", "", lit), ("xterm", "1", plain), ("dumb", "", plain)):
+            given = environment(TERM=term, NO_COLOR=no_color)
             terminal, other = pty.openpty()
             subprocess.run(command("diff", "a", "b"), stdout=other, env=given, check=False)
             os.close(other)

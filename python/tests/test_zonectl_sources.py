@@ -268,10 +268,11 @@ class Values(unittest.TestCase):
             self.assertEqual(texts.size(octets), wanted)
 
     def test_safe_texts(self) -> None:
-        for text, wanted in (
+        cases: list[tuple[str | bytes, str]] = [
             ("a b\xfc", "a b\xfc"), ("\x1b[31m", "\\x1b[31m"), ("a\nb", "a\\x0ab"), ("\x9b", "\\xc2\\x9b"), ("\u202e", "\\xe2\\x80\\xae"),
             (b"\xff\xfe", "\\xff\\xfe"), ("\ud800", "\\xed\\xa0\\x80"), ("\u200b", "\\xe2\\x80\\x8b"), ("\x7f", "\\x7f"),
-        ):
+        ]
+        for text, wanted in cases:
             self.assertEqual(texts.safe(text), wanted)
         self.assertEqual("\xfc\u20ac".encode("latin-1", "zonectl"), b"\xfc\\xe2\\x82\\xac")
         self.assertEqual(texts.one_field("a\\b\n\x1b"), "a\\x5cb\\x0a\\x1b")
@@ -285,11 +286,13 @@ class Values(unittest.TestCase):
 
 class CommandLines(unittest.TestCase):
     def test_usage(self) -> None:
-        for words in ([], ["x"], ["--json"], ["diff"], ["diff", "a"], ["diff", "a", "b", "c"], ["normalise"], ["normalise", "a", "b"],
+        cases: list[list[str]] = [
+            [], ["x"], ["--json"], ["diff"], ["diff", "a"], ["diff", "a", "b", "c"], ["normalise"], ["normalise", "a", "b"],
                       ["sum"], ["fetch"], ["fetch", "a"], ["fetch", "a", "b"], ["diff", "--form", "text", "a", "b"], ["diff", "--exac"],
                       ["diff", "-t", "x", "a", "b"], ["diff", "--format=x", "a", "b"], ["diff", "-i", "nothing", "a", "b"],
                       ["diff", "-n", "x", "a", "b"], ["diff", "--parts", "d", "a", "b"], ["sum", "--check", "a", "b"], ["completion"],
-                      ["completion", "csh"], ["diff", "-O", "a..b", "a", "b"], ["fetch", "--json", "axfr://h/x"]):
+                      ["completion", "csh"], ["diff", "-O", "a..b", "a", "b"], ["fetch", "--json", "axfr://h/x"]]
+        for words in cases:
             with self.subTest(words):
                 it = ran(*words)
                 self.assertEqual((it.status, it.err.count("\n")), (2, 1), it.err)

@@ -58,16 +58,16 @@ def _key(name: str, stated: dict[str, str]) -> Key:
     if set(stated) != {"algorithm", "secret"}:
         raise ValueError("a key statement needs an algorithm and a secret")
     if stated["algorithm"].lower() not in ALGORITHMS:
-        raise ValueError("an algorithm isn't one of " + ", ".join(ALGORITHMS))
+        raise ValueError("its algorithm isn't " + ", ".join(ALGORITHMS))
     algorithm, digest = ALGORITHMS[stated["algorithm"].lower()]
     try:
         wire = wire_name(name.lower())
     except ValueError:
-        raise ValueError("the name of a key isn't a domain name in ASCII") from None
+        raise ValueError("its name isn't one in ASCII") from None
     try:
         secret = base64.b64decode(stated["secret"], validate=True)
     except ValueError:
-        raise ValueError("a secret isn't base64") from None
+        raise ValueError("its secret isn't base64") from None
     key = Key(wire, wire_name(algorithm), digest, secret)
     key.mac(b"")  # fails if this Python lacks the digest
     return key
