@@ -7,9 +7,10 @@ import time
 
 from zonectl import names, tsig
 from zonectl.bounds import MOST_OCTETS, Limits, Silent
-from zonectl.connections import Trust, Unreached, connected
+from zonectl.connections import Unreached, connected
 from zonectl.errors import Failure, Undone
 from zonectl.transfer import Query, Stopped, WrongSignature, ask
+from zonectl.trust import Trust
 
 wire_name = names.wire_name
 

@@ -330,3 +330,63 @@ class Pieces(unittest.TestCase):
         self.assertTrue(issubclass(transfer.WrongSignature, Refusal))
         self.assertTrue(issubclass(transfer.Stopped, Failure))
         self.assertEqual((int(transfer.WrongSignature.status), int(transfer.Stopped.status)), (3, 4))
+
+
+class Decoding(InFolder):
+    """Transfers with types of fault F33."""
+
+    FILE = "$ORIGIN x.\n@ 60 SOA n h 1 2 3 4 5\n@ 60 NS n\nw 60 RP H.x. t.w\nw 60 AFSDB 1 Db.w\n@ 60 MX 5 m\n" \
+        "s 60 NAPTR 1 2 \"a\" \"b\" \"\" n\nk 60 TYPE65280 \\# 2 c00c\n"
+
+    @staticmethod
+    def record(owner: bytes, kind: int, data: bytes, ttl: int = 60) -> bytes:
+        """Returns a record of class IN."""
+        return owner + struct.pack("!HHLH", kind, 1, ttl, len(data)) + data
+
+    def records(self) -> list[bytes]:
+        """Returns the records of FILE as answers whose names are compressed; octet 12 is the name of the zone."""
+        x = b"\xc0\x0c"
+        first = self.record(x, 6, b"\1n" + x + b"\1h" + x + struct.pack("!5L", 1, 2, 3, 4, 5))
+        return [
+            first, self.record(x, 2, b"\1n" + x), self.record(b"\1w" + x, 17, b"\1H" + x + b"\1t\1w" + x),
+            self.record(b"\1w" + x, 18, b"\0\1\2Db\1w" + x), self.record(x, 15, b"\0\5\1m" + x),
+            self.record(b"\1s" + x, 35, b"\0\1\0\2\1a\1b\0\1n" + x), self.record(b"\1k" + x, 65280, b"\xc0\x0c"), first]
+
+    def stream(self, records: list[bytes]) -> bytes:
+        """Returns a transfer of the zone x., two records a message."""
+        query = transfer.Query(wire_name("x."), ident=b"ab").message()
+        return framed(*(answer(query, *records[at : at + 2]) for at in range(0, len(records), 2)))
+
+    def test_a_decoded_transfer_has_the_text_of_its_file(self) -> None:
+        self.write("file", self.FILE)
+        wanted = ran("normalise", "file")
+        self.assertEqual(wanted.status, 0)
+        with serving(sends(self.stream(self.records()))) as server:
+            url = f"axfr://127.0.0.1:{server.port}/x"
+            self.assertEqual(ran("normalise", url), Ran(0, wanted.out, f"zonectl: {url}: decoded by zonectl: RP, AFSDB\n"))
+            it = ran("diff", "--json", "file", url)
+        self.assertIn('"decoder": "engine"}, "b": {', it.out)
+        self.assertIn('"decoder": "zonectl"}', it.out)
+
+    def test_what_cannot_be_decoded_stays_refused(self) -> None:
+        records, x = self.records(), b"\xc0\x0c"
+        other = records[0][:-1] + b"\6"
+        rp = self.record(b"\1w" + x, 17, b"\1H" + x + b"\1t")
+        for name, stream in (
+            ("no closing SOA", self.stream(records[:-1])), ("another SOA", self.stream([*records[:-1], other])),
+            ("no opening SOA", self.stream([records[2], *records])), ("a record after it", self.stream([*records, records[1]])),
+            ("RP that is cut", self.stream([*records[:3], rp, records[-1]])), ("a message that is cut", self.stream(records)[:-3]),
+            ("another ID at the end", self.stream(records)[:-1].replace(b"ab", b"ac", 4).replace(b"ac", b"ab", 3) + b"\5"),
+            ("RP with more octets", self.stream([records[0], self.record(x, 17, b"\0\0\0"), records[-1]])),
+            ("a pointer that leads on", self.stream([records[0], self.record(x, 17, b"\xc0\xff\0"), records[-1]])),
+        ):
+            with self.subTest(name):
+                it = ran("normalise", self.write("a", stream))
+                self.assertEqual((it.status, it.out), (3, ""))
+                self.assertRegex(it.err, "^zonectl: a: F(33|38|35|31|23|22|9) ")
+
+    def test_a_zone_that_is_none_is_refused_as_it_is(self) -> None:
+        records, x = self.records(), b"\xc0\x0c"
+        ttl = self.record(b"\1w" + x, 17, b"\0\0", ttl=61)
+        self.assert_failed(ran("normalise", self.write("a", self.stream([*records[:-1], ttl, records[-1]]))), 3,
+                           "zonectl: a: F41 DifferingTtl: the TTL differs from that of its record set")

@@ -6,14 +6,9 @@ from collections.abc import Iterator
 from typing import Any
 
 from .difference import Difference, RRset, by_owner, soa_changes
-from .texts import ALARM, GREEN, RED, YELLOW, coloured, counted, safe
+from .texts import ALARM, GREEN, RED, YELLOW, alarm, coloured, counted, safe
 
 ORDER = {"equal": "", "unordered": "; the serials can't be ordered (RFC 1982)"}
-
-
-def alarm(serial: int) -> str:
-    """Returns the line of two zones that differ under one serial."""
-    return f"DIFFERENT UNDER ONE SERIAL {serial}"
 
 
 def same_line(found: Difference) -> str:

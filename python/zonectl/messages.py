@@ -28,15 +28,17 @@ def after_name(message: bytes, offset: int) -> int:
         offset += 1 + octet
 
 
-def whole_name(message: bytes, offset: int) -> bytes:
-    """Returns the octets of a name in lower case, its pointers followed, each further back."""
-    name, begin = bytearray(), offset
+def expanded_name(message: bytes, offset: int) -> tuple[bytes, int]:
+    """Returns the octets of a name, its pointers followed, and the offset after it. Each pointer leads further back."""
+    name, begin, after, pointers = bytearray(), offset, 0, 0
     while octet := message[offset]:
         if octet >= 192:
-            offset = struct.unpack_from("!H", message, offset)[0] & 0x3FFF
-            if offset >= begin:
+            target = struct.unpack_from("!H", message, offset)[0] & 0x3FFF
+            pointers += 1
+            if not HEADER <= target < begin or pointers > 128:
                 raise Malformed("a pointer doesn't lead back")
-            begin = offset
+            after = after or offset + 2
+            offset = begin = target
         elif octet >= 64:
             raise Malformed("a label has a reserved form")
         else:
@@ -44,7 +46,12 @@ def whole_name(message: bytes, offset: int) -> bytes:
             offset += 1 + octet
             if len(name) > 254:
                 raise Malformed("a name has more than 255 octets")
-    return bytes(name).lower() + b"\0"
+    return bytes(name) + b"\0", after or offset + 1
+
+
+def whole_name(message: bytes, offset: int) -> bytes:
+    """Returns the octets of a name in lower case, its pointers followed."""
+    return expanded_name(message, offset)[0].lower()
 
 
 def after_questions(message: bytes) -> int:

@@ -5,18 +5,20 @@ import argparse
 import os
 import time
 from collections.abc import Callable
-from typing import NoReturn, TypeVar
+from typing import TYPE_CHECKING, NoReturn, TypeVar
 
 from . import bounds
 from .bounds import Limits
-from .connections import Trust
 from .errors import Undone, Usage, system_reason
 from .names import absolute
 from .outputs import Output
 from .reading import Access
 from .texts import counted
-from .tsig import Key, keys_of
+from .trust import Trust
 from .zones import Reader
+
+if TYPE_CHECKING:
+    from .tsig import Key
 
 MOST_OF_KEYS = 1 << 20
 T = TypeVar("T")
@@ -116,6 +118,8 @@ def reader_of(given: argparse.Namespace, output: Output) -> Reader:
 
 def keys_of_file(path: str, output: Output) -> list[Key]:
     """Returns the keys of a file. What is wrong with it is reported without its text."""
+    from .tsig import keys_of
+
     try:
         with open(path, encoding="ascii") as file:
             if os.fstat(file.fileno()).st_mode & 0o004:

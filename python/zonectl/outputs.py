@@ -4,7 +4,6 @@ from __future__ import annotations
 import contextlib
 import json
 import os
-import secrets
 import stat
 import sys
 from collections.abc import Iterator
@@ -97,7 +96,7 @@ def whole_file(path: str) -> Iterator[IO[bytes]]:
 @contextlib.contextmanager
 def _replaced(path: str, mode: int) -> Iterator[IO[bytes]]:
     path = os.path.realpath(path)
-    beside = f"{path}.{secrets.token_hex(4)}"
+    beside = f"{path}.{os.urandom(4).hex()}"
     descriptor = os.open(beside, os.O_WRONLY | os.O_CREAT | os.O_EXCL | os.O_CLOEXEC, 0o600)
     try:
         with open(descriptor, "wb") as file:

@@ -5,19 +5,23 @@ import os
 import re
 import select
 import stat
-import subprocess
 import zlib
 from collections.abc import Callable
 from dataclasses import dataclass, field
+from typing import TYPE_CHECKING
 
 from . import dig
 from .bounds import Clock, Limits
-from .connections import Trust, connected
 from .errors import Refusal, Undone, Usage
 from .names import wire_name
 from .sources import File, Git, Server, Source, Standard, Web
-from .transfer import Query, Taken, ask
-from .tsig import Key
+from .trust import Trust
+
+if TYPE_CHECKING:
+    import subprocess
+
+    from .transfer import Taken
+    from .tsig import Key
 
 PIECE, BLOCK = 1 << 20, 1 << 14
 GZIP = b"\x1f\x8b\x08"
@@ -177,6 +181,8 @@ def _until_ready(poll: select.poll, clock: Clock) -> None:
 
 def from_git(source: Git, limits: Limits) -> bytes:
     """Returns a blob of git. No shell runs, and git asks nothing. Raises Undone."""
+    import subprocess
+
     environment = {**os.environ, "GIT_TERMINAL_PROMPT": "0", "LC_ALL": "C"}
     try:
         git = subprocess.Popen(
@@ -220,6 +226,9 @@ def _both_of(git: subprocess.Popen[bytes], limits: Limits) -> tuple[bytes, bytes
 
 def transferred(source: Server, access: Access, sink: Callable[[bytes], object]) -> Taken:
     """Asks a server for a zone and hands the messages to `sink`. Raises Failure."""
+    from .connections import connected
+    from .transfer import Query, ask
+
     key = access.key_of(source)
     context = access.trust.context("dot") if source.is_tls else None
     clock = access.limits.clock("the transfer")

@@ -56,6 +56,11 @@ def counted(number: int, what: str) -> str:
     return f"{number} {what}{'s' * (number != 1)}"
 
 
+def alarm(serial: int) -> str:
+    """Returns the line of two copies that differ under one serial."""
+    return f"DIFFERENT UNDER ONE SERIAL {serial}"
+
+
 def size(octets: int) -> str:
     """Returns a number of octets with a decimal unit: `1.2 MB`."""
     amount, unit = float(octets), "octets"

@@ -5,8 +5,9 @@ import http.client
 import urllib.parse
 
 from .bounds import Clock, Limits
-from .connections import Connection, Trust, connected
+from .connections import Connection, connected
 from .errors import Undone
+from .trust import Trust
 
 REDIRECTS = 5
 MOVED = frozenset((301, 302, 303, 307, 308))

@@ -87,7 +87,7 @@ class Reader:
         return Access(access.limits, access.keys, access.trust, lambda text: self.warn(source.text, text))
 
     def _of_transfer(self, source: Source, it: Read) -> Copy:
-        copy = Copy(source.text, engine.of_transfer(it.octets), is_transfer=True)
+        copy = self._transferred(source, it.octets)
         if isinstance(source, Server):
             if copy.apex != source.zone:
                 raise Undone(f"the server sent the zone {copy.apex}")
@@ -96,6 +96,26 @@ class Reader:
         elif self.origin and self.origin != copy.apex:
             self.warn(source.text, f"it is a transfer of {copy.apex}, not of {self.origin}")
         return copy
+
+    def _transferred(self, source: Source, octets: bytes) -> Copy:
+        """Returns a transfer. One with a type that the engine doesn't read in transfers (F33) is decoded here."""
+        try:
+            return Copy(source.text, engine.of_transfer(octets), is_transfer=True)
+        except Refusal as refusal:
+            if refusal.fault != engine.COMPRESSIBLE:
+                raise
+            from .decoding import master_file
+
+            found = master_file(octets)
+            if not found:
+                raise
+        try:
+            text = engine.of_file(found.text, ".")
+        except Refusal as refusal:
+            refusal.line = None  # that of a text that nobody sees
+            raise
+        self.warn(source.text, f"decoded by zonectl: {', '.join(found.types)}")
+        return Copy(source.text, text, is_transfer=True, decoder="zonectl")
 
     def _of_file(self, source: Source, it: Read, fallback: str | None) -> Copy:
         name = self.origin or self._evident(source, it.octets, fallback)

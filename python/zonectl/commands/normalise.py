@@ -7,13 +7,13 @@ from collections.abc import Callable
 from typing import Any
 
 from .. import engine
-from ..diff_text import alarm
 from ..errors import Failure, Refusal, Status, Undone, Usage, about
 from ..folding import folded_text
 from ..options import Parser, add_output, add_sources, reader_of
 from ..outputs import Output
 from ..reading import stored_octets
 from ..sources import File, Source, sources_of
+from ..texts import alarm
 from ..zones import Copy, Reader
 
 ABOUT = """\

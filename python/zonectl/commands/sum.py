@@ -9,7 +9,6 @@ from dataclasses import dataclass, replace
 from typing import Any
 
 from .. import engine
-from ..diff_text import alarm
 from ..errors import Failure, Status, Undone, Usage, about
 from ..folding import folded_text
 from ..names import absolute
@@ -17,7 +16,7 @@ from ..options import Parser, add_output, add_sources, reader_of
 from ..outputs import Output
 from ..reading import from_path
 from ..sources import source_of, sources_of
-from ..texts import one_field
+from ..texts import alarm, one_field
 from ..zones import Copy, Reader
 
 ABOUT = """\
