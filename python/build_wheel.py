@@ -1,5 +1,6 @@
 #!/usr/bin/env python3
-"""Makes the wheel of the module with the shared library in it, by the format of wheels (PEP 427), and prints its path.
+"""Makes the wheel of the module, with the shared library and the command zonectl in it, by the format of wheels (PEP 427), and prints
+its path.
 
     python/build_wheel.py LIBRARY FOLDER    LIBRARY is the libzonenorm.so.1 of tools/package/build_library
     python/build_wheel.py --metadata        prints the metadata alone
@@ -30,8 +31,11 @@ def metadata() -> tuple[str, str]:
 
 def main(library: Path, folder: Path) -> None:
     name, text = metadata()
-    files = {f"zonenorm/{path.name}": path.read_bytes() for path in sorted((HERE / "zonenorm").glob("*.py"))}
-    files |= {"zonenorm/py.typed": b"", "zonenorm/libzonenorm.so.1": library.read_bytes(), f"{name}.dist-info/METADATA": text.encode()}
+    modules = [path for package in ("zonenorm", "zonectl") for path in sorted((HERE / package).rglob("*.py"))]
+    files = {path.relative_to(HERE).as_posix(): path.read_bytes() for path in modules}
+    files |= {"zonenorm/py.typed": b"", "zonectl/py.typed": b"", "zonenorm/libzonenorm.so.1": library.read_bytes()}
+    files |= {f"{name}.dist-info/METADATA": text.encode()}
+    files[f"{name}.dist-info/entry_points.txt"] = b"[console_scripts]\nzonectl = zonectl.main:script\n"
     files[f"{name}.dist-info/WHEEL"] = f"Wheel-Version: 1.0\nGenerator: build_wheel.py\nRoot-Is-Purelib: false\nTag: {TAG}\n".encode()
     digests = {at: base64.urlsafe_b64encode(hashlib.sha256(octets).digest()).rstrip(b"=").decode() for at, octets in files.items()}
     rows = [f"{at},sha256={digests[at]},{len(octets)}\n" for at, octets in files.items()]

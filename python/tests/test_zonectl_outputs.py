@@ -182,6 +182,7 @@ class Drawn(InFolder):
                 self.assertEqual(presented.count("\n"), it.out.count("\n"))
                 self.assertNotIn("TYPE257", presented)
 
+    @unittest.skipUnless((TOP / "commands/to_nsupdate").exists(), "to_nsupdate isn't beside the tests")
     def test_updates_are_those_of_to_nsupdate(self) -> None:
         for number, (a, b) in enumerate(self.pairs()):
             with self.subTest(number):

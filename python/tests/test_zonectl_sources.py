@@ -307,6 +307,7 @@ class CommandLines(unittest.TestCase):
             it = ran(*words)
             self.assertRegex(it.out, r"^zonectl \d+\.\d+\.\d+, zonenorm \d+\.\d+\.\d+, canonical text 1\n$")
 
+    @unittest.skipUnless((TOP / "docs").is_dir(), "the documents aren't beside the tests")
     def test_each_option_is_in_the_page_and_the_completion(self) -> None:
         page = (TOP / "docs/zonectl.1").read_text().replace("\\-", "-")
         known = set(re.findall(r"(?<![\w-])--?[a-zA-Z][a-z-]*", page))
@@ -317,6 +318,7 @@ class CommandLines(unittest.TestCase):
         self.assertEqual(options - known, set())
         self.assertEqual({it for it in known if it.startswith("--")} - options, set())
 
+    @unittest.skipUnless((TOP / "docs").is_dir(), "the documents aren't beside the tests")
     def test_the_completion_is_the_parsers(self) -> None:
         stored = TOP / "docs/zonectl.bash"
         self.assertEqual(ran("completion", "bash").out, stored.read_text())
