@@ -358,6 +358,12 @@ class Files(InFolder):
                             env=environment(), text=True)
         self.assertEqual((it.stdout.count("\n"), it.stderr), (1, ""))
 
+    def test_closed_outputs(self) -> None:
+        for redirection, status, err in ((">&-", 4, "zonectl: standard output is closed\n"), ("2>&-", 0, ""), (">&- 2>&-", 4, "")):
+            it = subprocess.run(["sh", "-c", f'"$@" {redirection}', "sh", *command("sum", "a")], capture_output=True, env=environment(),
+                                text=True)
+            self.assertEqual((it.returncode, it.stderr), (status, err))
+
     def test_hostile_names(self) -> None:
         for name, shown in (("\x1b[31mred", "\\x1b[31mred"), ("a\nb", "a\\x0ab"), ("\u202ex", "\\xe2\\x80\\xaex"), ("<script>", "<script>")):
             with self.subTest(name):

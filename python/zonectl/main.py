@@ -127,12 +127,13 @@ def script() -> NoReturn:
     for number in (signal.SIGINT, signal.SIGHUP, signal.SIGTERM):
         if signal.getsignal(number) != signal.SIG_IGN:
             signal.signal(number, _interrupt)
-    for stream in (sys.stdout, sys.stderr):
+    for stream in filter(None, (sys.stdout, sys.stderr)):
         stream.reconfigure(errors="zonectl")  # type: ignore[attr-defined]
     status = main(sys.argv[1:])
     try:
-        to_standard_output(b"")
+        if sys.stdout:
+            to_standard_output(b"")
     except (OSError, Undone):
         status = Status.UNDONE
-        os.dup2(os.open(os.devnull, os.O_WRONLY), 1)
+        os.dup2(os.open(os.devnull, os.O_WRONLY), 1)  # else Python reports it once more
     sys.exit(int(status))

@@ -41,7 +41,8 @@ class Output:
 
     def result(self, text: str | bytes, path: str | None = None) -> None:
         """Writes a result to a file, or to standard output."""
-        octets = text if isinstance(text, bytes) else text.encode(errors="zonectl")
+        encoding = "utf-8" if path or not sys.stdout else sys.stdout.encoding
+        octets = text if isinstance(text, bytes) else text.encode(encoding, "zonectl")
         if path is None:
             to_standard_output(octets)
             return
@@ -55,13 +56,15 @@ class Output:
 
 def say(line: str) -> None:
     """Writes a line to standard error, made safe. Nobody may be there to read it."""
-    with contextlib.suppress(OSError, ValueError):
+    with contextlib.suppress(OSError, ValueError, AttributeError):  # the last where it is closed
         sys.stderr.write(safe(line) + "\n")
         sys.stderr.flush()
 
 
 def to_standard_output(octets: bytes) -> None:
     """Writes octets to standard output. Raises Undone; BrokenPipeError where nobody reads them."""
+    if sys.stdout is None:
+        raise Undone("standard output is closed")
     try:
         sys.stdout.flush()
         sys.stdout.buffer.write(octets)

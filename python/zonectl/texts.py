@@ -80,11 +80,11 @@ def duration(seconds: float) -> str:
     return f"{hours}h{minutes:02d}m{rest:02d}s" if hours else f"{minutes}m{rest:02d}s"
 
 
-def are_colours_wanted(choice: str, stream: IO[str], environment: Mapping[str, str] = os.environ) -> bool:
+def are_colours_wanted(choice: str, stream: IO[str] | None, environment: Mapping[str, str] = os.environ) -> bool:
     """Returns whether a stream gets colours. `choice` is `auto`, `always` or `never`."""
     if choice != "auto":
         return choice == "always"
-    return stream.isatty() and not environment.get("NO_COLOR") and environment.get("TERM") != "dumb"
+    return stream is not None and stream.isatty() and not environment.get("NO_COLOR") and environment.get("TERM") != "dumb"
 
 
 def coloured(text: str, colour: str, is_on: bool) -> str:

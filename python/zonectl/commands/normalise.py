@@ -54,7 +54,8 @@ def run(given: argparse.Namespace, output: Output) -> int:
         elif given.output or not given.quiet:
             output.result(text_of(copy, given), given.output)
         return Status.SAME
-    return many(sources, reader, output, lambda copy: written(copy, given, output))
+    seen: set[str] = set()
+    return many(sources, reader, output, lambda copy: written(copy, given, output, seen))
 
 
 def text_of(copy: Copy, given: argparse.Namespace) -> bytes:
@@ -92,14 +93,14 @@ def many(sources: list[Source], reader: Reader, output: Output, work: Callable[[
     return worst
 
 
-def written(copy: Copy, given: argparse.Namespace, output: Output) -> int:
-    """Writes a copy into the folder of the options."""
+def written(copy: Copy, given: argparse.Namespace, output: Output, seen: set[str]) -> int:
+    """Writes a copy into the folder of the options. `seen` has the files that were written before."""
     text, folder = text_of(copy, given), given.output_dir or given.archive
     if given.output_dir:
         path = os.path.join(folder, f"{file_name(copy.apex)}.zone")
-        if path in given.__dict__.setdefault("paths", set()):
+        if path in seen:
             raise Undone(f"another source is of {copy.apex} too", copy.source)
-        given.paths.add(path)
+        seen.add(path)
         output.result(text, path)
         return Status.SAME
     path = os.path.join(folder, f"{file_name(copy.apex)}.{copy.serial}")
