@@ -32,6 +32,7 @@ def metadata() -> tuple[str, str]:
 def main(library: Path, folder: Path) -> None:
     name, text = metadata()
     modules = [path for package in ("zonenorm", "zonectl") for path in sorted((HERE / package).rglob("*.py"))]
+    modules += sorted((HERE / "zonectl/schemas").glob("*.json"))
     files = {path.relative_to(HERE).as_posix(): path.read_bytes() for path in modules}
     files |= {"zonenorm/py.typed": b"", "zonectl/py.typed": b"", "zonenorm/libzonenorm.so.1": library.read_bytes()}
     files |= {f"{name}.dist-info/METADATA": text.encode()}
