@@ -60,6 +60,11 @@ def two_soas(connection: socket.socket, query: bytes, server: Server) -> None:
     connection.sendall(framed(answer(query, soa(1)), answer(query, soa(2))))
 
 
+def two_equal(connection: socket.socket, query: bytes, server: Server) -> None:
+    """A server whose zones have an SOA alone."""
+    connection.sendall(framed(answer(query, soa(1), soa(1))))
+
+
 class Hostile(InFolder):
     def fetched(self, behave: Behaviour, *options: str, is_dns: bool = True) -> tuple[Ran, str]:
         """Returns what comes of a fetch, and the URL. No file may be left behind."""
@@ -76,6 +81,30 @@ class Hostile(InFolder):
         self.assertRegex(it.err, rf"^zonectl: {url}: the zone example\., 983 octets in 4 messages, 0\.\d\d s\n$")
         self.assertEqual(ran("normalise", "sent").out, CANONICAL)
         self.assertEqual(list(frames((self.folder / "sent").read_bytes()))[0][2:], MESSAGES[0][2:])
+
+    def test_ipv6_and_every_address_of_a_name(self) -> None:
+        try:
+            with serving(sends(AXFR), host="::1") as server:
+                self.assertEqual(ran("normalise", f"axfr://[::1]:{server.port}/example."), Ran(0, CANONICAL, ""))
+        except OSError:
+            self.skipTest("there is no IPv6")
+        with serving(sends(AXFR)) as server:  # of localhost the first address may be ::1, where nobody listens
+            self.assertEqual(ran("normalise", f"axfr://localhost:{server.port}/EXAMPLE"), Ran(0, CANONICAL, ""))
+
+    def test_classes(self) -> None:
+        def behave(connection: socket.socket, query: bytes, server: Server) -> None:
+            self.assertEqual(query[-4:], b"\0\xfc\0\3")
+            chaos = query[12:]
+            record = soa(1)[:4] + b"\0\3" + soa(1)[6:]
+            connection.sendall(framed(query[:2] + b"\x84\0" + struct.pack("!4H", 1, 2, 0, 0) + chaos + record * 2))
+
+        with serving(behave) as server:
+            it = ran("normalise", f"axfr://127.0.0.1:{server.port}/x?class=CH")
+            self.assertEqual(it, Ran(0, "x. 60 CH SOA ns.x. h.x. 1 2 3 4 5\n", ""))
+        with serving(two_equal) as server:
+            url = f"axfr://127.0.0.1:{server.port}/y"
+            it = ran("diff", url, url.replace("/y", "/z"))
+            self.assert_failed(it, 4, f"zonectl: {url} is the zone y., {url[:-1]}z the zone z.: nothing to compare")
 
     def test_each_fault_has_its_line(self) -> None:
         head = MESSAGES[0]

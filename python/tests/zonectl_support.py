@@ -139,10 +139,11 @@ class Server(socketserver.ThreadingTCPServer):
     daemon_threads = True
     request_queue_size = 64
 
-    def __init__(self, behave: Behaviour, context: ssl.SSLContext | None = None, is_dns: bool = True) -> None:
+    def __init__(self, behave: Behaviour, context: ssl.SSLContext | None = None, is_dns: bool = True, host: str = "127.0.0.1") -> None:
+        self.address_family = socket.AF_INET6 if ":" in host else socket.AF_INET
         self.behave, self.context, self.is_dns, self.over = behave, context, is_dns, threading.Event()
         self.queries: list[bytes] = []
-        super().__init__(("127.0.0.1", 0), Handler)
+        super().__init__((host, 0), Handler)
 
     @property
     def port(self) -> int:
@@ -175,9 +176,11 @@ class Handler(socketserver.BaseRequestHandler):
 
 
 @contextlib.contextmanager
-def serving(behave: Behaviour, context: ssl.SSLContext | None = None, is_dns: bool = True) -> Iterator[Server]:
+def serving(
+    behave: Behaviour, context: ssl.SSLContext | None = None, is_dns: bool = True, host: str = "127.0.0.1",
+) -> Iterator[Server]:
     """Runs a server."""
-    with Server(behave, context, is_dns) as server:
+    with Server(behave, context, is_dns, host) as server:
         thread = threading.Thread(target=server.serve_forever, kwargs={"poll_interval": 0.02}, daemon=True)
         thread.start()
         try:

@@ -8,6 +8,7 @@ from dataclasses import dataclass
 from .errors import Undone
 from .names import absolute
 
+SEARCHED = 4 << 20
 HOST_LABEL = r"[A-Za-z0-9_-]{1,63}"
 FILE_NAME = re.compile(r"(?:db\.(?P<after>.+)|(?P<before>.+)\.(?:zone|db))")
 ZONE_NAME = re.compile(rf"(?:{HOST_LABEL}\.)+(?=[^.]*[A-Za-z]){HOST_LABEL}")
@@ -91,7 +92,11 @@ def entries(octets: bytes) -> Iterator[tuple[bool, list[bytes]]]:
 
 
 def by_text(octets: bytes) -> str | None:
-    """Returns the owner of the first SOA record, if that is absolute by itself or by an absolute `$ORIGIN` before it."""
+    """Returns the owner of the first SOA record, if that is absolute by itself or by an absolute `$ORIGIN` before it.
+
+    It is looked for in the first 4 MiB, since this isn't the engine, and a zone's SOA comes first.
+    """
+    octets = octets[:SEARCHED]
     if not SOA.search(octets):
         return None
     origin: str | None = None
