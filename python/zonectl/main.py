@@ -6,7 +6,6 @@ import importlib
 import os
 import signal
 import sys
-import traceback
 from types import ModuleType
 from typing import NoReturn
 
@@ -114,6 +113,8 @@ def main(arguments: list[str]) -> int:
         return failed(Undone("out of memory"), output, False)
     except Exception as error:  # which no user has to read as a traceback
         if "--debug" in arguments:
+            import traceback
+
             traceback.print_exc()
         return failed(Undone(f"a fault of zonectl itself: {type(error).__name__} (--debug shows where)"), output, False)
 

@@ -2,9 +2,7 @@
 from __future__ import annotations
 
 import re
-import urllib.parse
 from dataclasses import dataclass
-from typing import NoReturn
 
 from .errors import Usage
 from .names import absolute, class_number, wire_name
@@ -102,6 +100,8 @@ def _of_url(text: str, scheme: str, rest: str) -> Source:
 
 
 def _of_web(text: str) -> Source:
+    import urllib.parse
+
     try:
         parts = urllib.parse.urlsplit(text)
         parts.port  # noqa: B018  a port that isn't one is a ValueError

@@ -1,7 +1,6 @@
 """Copies of zones: a source is read, its origin found, and the engine asked for its canonical text."""
 from __future__ import annotations
 
-import urllib.parse
 from collections.abc import Callable
 from dataclasses import dataclass, field
 from typing import cast
@@ -140,6 +139,8 @@ def path_of(source: Source) -> str:
         case File(path=path) | Git(path=path):
             return path
         case Web(url=url):
+            import urllib.parse
+
             return urllib.parse.unquote(urllib.parse.urlsplit(url).path, "latin-1")
     return ""
 
