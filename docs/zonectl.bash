@@ -17,11 +17,11 @@ _zonectl() {
     esac
     case ${COMP_WORDS[1]} in
         completion) options='--color --help --output --quiet --version -V -h -o -q' ;;
-        diff) options='--color --deadline --exact --format --help --ignore --json --key --lines --max-size --origin --origin-from --output --parts --presentation --quiet --require-zonemd --run-deadline --timeout --tls-ca --tls-client --tls-name --tls-no-verify --version -O -V -e -h -i -k -n -o -p -q -t -z' ;;
+        diff) options='--color --deadline --exact --format --help --ignore --json --key --lines --max-size --origin --origin-from --output --parts --presentation --quiet --require-zonemd --run-deadline --since --timeout --tls-ca --tls-client --tls-name --tls-no-verify --version -O -V -e -h -i -k -n -o -p -q -t -z' ;;
         fetch) options='--color --deadline --help --json --key --max-size --output --partial --quiet --run-deadline --timeout --tls-ca --tls-client --tls-name --tls-no-verify --version -V -h -k -o -q -t' ;;
         normalise) options='--archive --color --deadline --fold --help --json --key --max-size --origin --origin-from --output --output-dir --presentation --quiet --run-deadline --textconv --timeout --tls-ca --tls-client --tls-name --tls-no-verify --version -O -V -h -k -o -p -q -t' ;;
         normalize) options='--archive --color --deadline --fold --help --json --key --max-size --origin --origin-from --output --output-dir --presentation --quiet --run-deadline --textconv --timeout --tls-ca --tls-client --tls-name --tls-no-verify --version -O -V -h -k -o -p -q -t' ;;
-        sum) options='--check --color --deadline --fold --help --json --key --max-size --origin --origin-from --output --quiet --run-deadline --timeout --tls-ca --tls-client --tls-name --tls-no-verify --version -O -V -h -k -o -q -t' ;;
+        sum) options='--check --color --deadline --fold --help --jobs --json --key --max-size --origin --origin-from --output --quiet --run-deadline --timeout --tls-ca --tls-client --tls-name --tls-no-verify --version -O -V -h -j -k -o -q -t' ;;
     esac
     case $word in
         -*) mapfile -t COMPREPLY < <(compgen -W "$options" -- "$word") ;;

@@ -143,6 +143,58 @@ class Differences(InFolder):
             self.assertEqual(shown, wanted)
 
 
+class Since(InFolder):
+    """The working tree and a revision."""
+
+    def git(self, *words: str) -> None:
+        """Runs git."""
+        given = environment(GIT_CONFIG_GLOBAL=os.devnull, GIT_AUTHOR_NAME="a", GIT_AUTHOR_EMAIL="a@b", GIT_COMMITTER_NAME="a",
+                            GIT_COMMITTER_EMAIL="a@b")
+        subprocess.run(["git", *words], check=True, env=given, capture_output=True)
+
+    def setUp(self) -> None:
+        super().setUp()
+        self.git("init", "-q")
+        self.assertEqual(ran("diff", "--since", "HEAD").status, 4)
+        for name in ("same", "z/changed", "removed", "broken"):
+            self.write(name, SMALL)
+        self.write("notes", "x")
+        self.git("add", ".")
+        self.git("commit", "-qm", "x")
+        self.write("same", SMALL + "; a comment\n")
+        self.write("z/changed", SMALL + "w 60 A 192.0.2.1\n")
+        self.write("broken", SMALL + "w 60 A 192.0.2\n")
+        self.write("new.zone", SMALL)
+        self.write("notes", "y")
+        os.remove("removed")
+        self.git("add", "new.zone")
+
+    def test_each_file(self) -> None:
+        wanted = "== new.zone: added\n== removed: removed\n== same\nsame, serial 1, 3 records\n== z/changed\n" \
+            "DIFFERENT UNDER ONE SERIAL 1\n--- git:HEAD:z/changed: serial 1, 3 records\n+++ {}z/changed: serial 1, 4 records\n" \
+            "w.x.\n  + 60 A 192.0.2.1\n1 RRset differs: 0 records only in git:HEAD:z/changed, 1 only in {}z/changed\n"
+        fault = "zonectl: {}broken:5: F9 BadRdata: the data doesn't fit its type\n"
+        self.assertEqual(ran("diff", "--since", "HEAD"), Ran(3, wanted.format("", ""), fault.format("")))
+        os.chdir("z")
+        self.assertEqual(ran("diff", "--since", "HEAD"), Ran(3, wanted.format("../", "../"), fault.format("../")))
+        self.assertEqual(ran("diff", "-q", "--since", "HEAD", "../same"), Ran(0, "", ""))
+        self.assertEqual(ran("diff", "--since", "HEAD", "../notes"), Ran(0, "", "zonectl: no zone file differs from HEAD\n"))
+
+    def test_formats(self) -> None:
+        it = ran("diff", "--since", "HEAD", "--json", "new.zone", "removed", "same")
+        found = [json.loads(line) for line in it.out.splitlines()]
+        self.assertEqual([(one["status"], one["a"] is None, one["b"] is None) for one in found], [(1, True, False), (1, False, True), (0, False, False)])
+        schema = json.loads((Path(folding.__file__).parent / "schemas/diff.json").read_text())
+        self.assertEqual([fault for one in found for fault in faults(one, schema)], [])
+        it = ran("diff", "--since", "HEAD", "--format=github", "removed", "z")
+        self.assertTrue(it.out.startswith("### removed: removed\n### x.: 1 RRset differs\n"), it.out)
+        for words in (["--format=nsupdate"], ["-O", "x"], ["-o", "f"]):
+            self.assertEqual(ran("diff", "--since", "HEAD", *words).status, 2)
+        for revision in ("-x", "", "--output=x"):
+            self.assertEqual(ran("diff", f"--since={revision}").status, 2)
+        self.assertEqual(ran("diff", "--since", "none").status, 4)
+
+
 class Drawn(InFolder):
     """Pairs of zones by chance."""
 
@@ -306,6 +358,11 @@ class Texts(InFolder):
         self.write("U", "x\n")
         self.assert_failed(ran("sum", "--check", "U"), 4, "zonectl: U:1: it isn't a line of zonectl sum")
         self.assertEqual(ran("sum", "none", "a\\ b").status, 4)
+        many = [self.write(f"m{number}", SMALL.replace(" 1 2", f" {number} 2")) for number in range(40)]
+        for jobs in ("1", "3", "40"):
+            it = ran("sum", "-j", jobs, *many, "none")
+            self.assertEqual([line.split(" ")[2] for line in it.out.splitlines()], [str(number) for number in range(40)])
+            self.assertEqual(it.err, "zonectl: none: it can't be read: no such file or directory\n")
         self.assertEqual(ran("sum", "none", "a\\ b").out.count("\n"), 1)
 
     def test_a_fold_is_another_text(self) -> None:

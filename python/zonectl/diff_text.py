@@ -7,6 +7,7 @@ from typing import Any
 
 from .difference import Difference, RRset, by_owner, soa_changes
 from .texts import ALARM, GREEN, RED, YELLOW, alarm, coloured, counted, safe
+from .zones import Copy
 
 ORDER = {"equal": "", "unordered": "; the serials can't be ordered (RFC 1982)"}
 
@@ -84,6 +85,15 @@ def json_of(found: Difference, most: int | None) -> dict[str, Any]:
         "alarm": "one-serial" if found.is_alarm else None, "serials": found.order, "exact": found.is_exact,
         "ignored": list(found.ignored.names), "a": a, "b": b, "rrsets": [_rrset(it) for it in shown],
         "omitted": len(found.rrsets) - len(shown),
+    }
+
+
+def json_of_one(copy: Copy, is_added: bool) -> dict[str, Any]:
+    """Returns the object of a zone that one side alone has; what the other would say is null."""
+    side = {"source": copy.source, "serial": copy.serial, "records": copy.records, "only": copy.records, "decoder": copy.decoder}
+    return {
+        "format": "zonectl-diff/1", "status": 1, "zone": copy.apex, "class": copy.rdclass, "alarm": None, "serials": None, "exact": None,
+        "ignored": [], "a": None if is_added else side, "b": side if is_added else None, "rrsets": [], "omitted": 0,
     }
 
 

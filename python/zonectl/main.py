@@ -136,5 +136,4 @@ def script() -> NoReturn:
             to_standard_output(b"")
     except (OSError, Undone):
         status = Status.UNDONE
-        os.dup2(os.open(os.devnull, os.O_WRONLY), 1)  # else Python reports it once more
-    sys.exit(int(status))
+    os._exit(int(status))  # at once, whatever threads wait for

@@ -4,7 +4,7 @@ from __future__ import annotations
 import argparse
 import os
 import time
-from collections.abc import Callable
+from collections.abc import Callable, Iterator, Sequence
 from typing import TYPE_CHECKING, NoReturn, TypeVar
 
 from . import bounds
@@ -22,6 +22,7 @@ if TYPE_CHECKING:
 
 MOST_OF_KEYS = 1 << 20
 T = TypeVar("T")
+R = TypeVar("R")
 
 
 class Parser(argparse.ArgumentParser):
@@ -94,6 +95,33 @@ def add_sources(parser: Parser, has_origin: bool = True) -> None:
     parser.option("--run-deadline", type=bounds.seconds, default=3600.0, metavar="TIME", help="bound of the command (1h; 0: none)")
     parser.option("--max-size", type=bounds.octets, default=128 << 20, metavar="SIZE",
                   help="bound of one source after decompression (128M; at most 1G)")
+
+
+def jobs(text: str) -> int:
+    """Returns how many inputs are read at once. Raises ValueError."""
+    if not text.isascii() or not text.isdigit() or not 1 <= int(text[:5]) <= 1000:
+        raise ValueError(f"not a number from 1 to 1000: {text}")
+    return int(text)
+
+
+def add_jobs(parser: Parser) -> None:
+    """Adds how many inputs are read at once."""
+    parser.option("-j", "--jobs", type=jobs, default=min(os.cpu_count() or 1, 8), metavar="N",
+                  help="so many inputs at once (the number of CPUs, at most 8)")
+
+
+def at_once(items: Sequence[T], number: int, work: Callable[[T], R]) -> Iterator[R]:
+    """Yields what each item comes to, in their order, several at once. The engine's calls run beside each other."""
+    if number == 1 or len(items) < 2:
+        yield from map(work, items)
+        return
+    from concurrent.futures import ThreadPoolExecutor
+
+    pool = ThreadPoolExecutor(number)
+    try:
+        yield from pool.map(work, items)
+    finally:
+        pool.shutdown(wait=False, cancel_futures=True)
 
 
 def access_of(given: argparse.Namespace, output: Output) -> Access:

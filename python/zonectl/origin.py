@@ -115,6 +115,11 @@ def by_text(octets: bytes) -> str | None:
     return None
 
 
+def has_soa(octets: bytes) -> bool:
+    """Whether octets have an entry with type SOA."""
+    return bool(SOA.search(octets)) and any(_is_soa(items if is_blank else items[1:]) for is_blank, items in entries(octets))
+
+
 def _is_soa(items: list[bytes]) -> bool:
     """Whether the items after the owner are those of an SOA record: a TTL and a class may come before the type."""
     for item in items[:3]:

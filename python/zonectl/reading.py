@@ -180,14 +180,18 @@ def _until_ready(poll: select.poll, clock: Clock) -> None:
 
 
 def from_git(source: Git, limits: Limits) -> bytes:
-    """Returns a blob of git. No shell runs, and git asks nothing. Raises Undone."""
+    """Returns a blob of git. Raises Undone."""
+    return git_output(["cat-file", "blob", f"{source.revision}:{source.path}"], limits)
+
+
+def git_output(arguments: list[str], limits: Limits) -> bytes:
+    """Returns what git writes. No shell runs, and git asks nothing. Raises Undone."""
     import subprocess
 
     environment = {**os.environ, "GIT_TERMINAL_PROMPT": "0", "LC_ALL": "C"}
     try:
         git = subprocess.Popen(
-            ["git", "cat-file", "blob", f"{source.revision}:{source.path}"], stdin=subprocess.DEVNULL, stdout=subprocess.PIPE,
-            stderr=subprocess.PIPE, env=environment)
+            ["git", *arguments], stdin=subprocess.DEVNULL, stdout=subprocess.PIPE, stderr=subprocess.PIPE, env=environment)
     except OSError:
         raise Undone("git can't be run: is it installed?") from None
     with git:

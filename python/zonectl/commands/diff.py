@@ -2,18 +2,22 @@
 from __future__ import annotations
 
 import argparse
+import json
 import os
 import re
 
-from ..diff_text import github_of, json_of, text_of
+from ..diff_text import github_of, json_of, json_of_one, text_of
 from ..difference import Difference, Ignored, difference_of
-from ..errors import Status, Undone, Usage
+from ..errors import Failure, Status, Undone, Usage
+from ..files import Change, changed_since
 from ..nsupdate import parts_of
 from ..options import Parser, add_output, add_sources, reader_of
 from ..outputs import Output
 from ..patch import patch_of
-from ..sources import sources_of
+from ..sources import File, Git, sources_of
+from ..texts import safe
 from ..types import OF_SIGNERS, in_the_text, type_number
+from ..zones import Copy
 
 ABOUT = """\
 Prints how two copies of a zone differ, RRset by RRset. The first line is DIFFERENT UNDER ONE SERIAL N if other data is under one
@@ -45,7 +49,8 @@ def lines(text: str) -> int:
 
 def parser() -> Parser:
     """Returns the parser."""
-    made = Parser("diff", "[OPTION].. A B", ABOUT)
+    made = Parser("diff", "[OPTION].. A B\n       zonectl diff [OPTION].. --since REV [PATH..]", ABOUT)
+    made.option("--since", metavar="REV", help="compare the zone files of the working tree with those of a git revision")
     made.option("-i", "--ignore", type=ignored, default=Ignored(), metavar="LIST",
                 help="leave out, separated by commas: serial, ttl, dnssec (what a signer adds), or types as CAA or TYPE257")
     made.option("-e", "--exact", action="store_true", help="compare names in RDATA with their letter case")
@@ -61,17 +66,24 @@ def parser() -> Parser:
 
 
 def run(given: argparse.Namespace, output: Output) -> int:
-    """Compares two copies."""
-    sources = sources_of(given.operands)
-    if len(sources) != 2:
-        raise Usage("it takes two sources, A and B")
+    """Compares two copies, or the working tree with a revision."""
     form = given.format or ("json" if given.json else "text")
     if given.json and form != "json":
         raise Usage(f"--json and --format={form} don't go together")
     if given.parts and form != "nsupdate":
         raise Usage("--parts goes with --format=nsupdate")
-    reader = reader_of(given, output)
-    a, b = reader.pair(*sources)
+    if given.since is not None:
+        if given.origin or given.output or form == "nsupdate":
+            raise Usage("--since doesn't go with --origin, --output and --format=nsupdate")
+        return since(form, given, output)
+    sources = sources_of(given.operands)
+    if len(sources) != 2:
+        raise Usage("it takes two sources, A and B")
+    return compared(*reader_of(given, output).pair(*sources), form, given, output)
+
+
+def compared(a: Copy, b: Copy, form: str, given: argparse.Namespace, output: Output, title: str = "") -> Status:
+    """Prints how two copies differ, under a title, and returns the status."""
     if form == "patch":
         text = patch_of(a, b, given.presentation)
         return written(text, Status.DIFFERENT if text else Status.SAME, given, output)
@@ -81,12 +93,38 @@ def run(given: argparse.Namespace, output: Output) -> int:
         return updates(found, status, given, output)
     most = None if given.lines == -1 else given.lines
     if form == "json":
-        if status or not given.quiet:
-            output.json(json_of(found, most), given.output)
-        return status
+        return written(json.dumps(json_of(found, most)) + "\n", status, given, output)
     most = LINES if given.lines is None else most
     is_on = output.has_colours and form == "text" and not given.output
-    return written(github_of(found, most) if form == "github" else text_of(found, most, is_on), status, given, output)
+    return written(github_of(found, most) if form == "github" else title + text_of(found, most, is_on), status, given, output)
+
+
+def since(form: str, given: argparse.Namespace, output: Output) -> int:
+    """Compares the zone files of the working tree with those of a revision, one after another."""
+    reader, worst = reader_of(given, output), 0
+    changes = changed_since(given.since, given.operands, reader.access.limits)
+    if not changes:
+        output.note(f"no zone file differs from {given.since}")
+    for it in changes:
+        old, new = Git(f"git:{given.since}:{it.path}", given.since, it.path), File(it.here, it.here)
+        try:
+            if it.how == "changed":
+                status: int = compared(*reader.pair(old, new), form, given, output, f"== {safe(it.path)}\n")
+            else:
+                copy = reader.copy(old if it.how == "removed" else new) if form == "json" else None
+                status = written(one_sided(it, form, copy), Status.DIFFERENT, given, output)
+        except Failure as failure:
+            output.note(failure.sentence())
+            status = failure.status
+        worst = max(worst, status)
+    return worst
+
+
+def one_sided(it: Change, form: str, copy: Copy | None) -> str:
+    """Returns what is printed of a file that was added or removed."""
+    if copy:
+        return json.dumps(json_of_one(copy, is_added=it.how == "added")) + "\n"
+    return {"text": f"== {safe(it.path)}: {it.how}\n", "github": f"### {safe(it.path)}: {it.how}\n"}.get(form, "")
 
 
 def written(text: str, status: Status, given: argparse.Namespace, output: Output) -> Status:

@@ -12,10 +12,10 @@ from .. import engine
 from ..errors import Failure, Status, Undone, Usage, about
 from ..folding import folded_text
 from ..names import absolute
-from ..options import Parser, add_output, add_sources, reader_of
+from ..options import Parser, add_jobs, add_output, add_sources, at_once, reader_of
 from ..outputs import Output
 from ..reading import from_path
-from ..sources import source_of, sources_of
+from ..sources import Source, source_of, sources_of
 from ..texts import alarm, one_field
 from ..zones import Copy, Reader
 
@@ -45,6 +45,7 @@ def parser() -> Parser:
     made = Parser("sum", "[OPTION].. SOURCE..\n       zonectl sum [OPTION].. --check FILE", ABOUT)
     made.option("--fold", action="store_true", help="names in RDATA in lower case too")
     made.option("--check", metavar="FILE", help="compare zones with the lines of FILE (- is standard input)")
+    add_jobs(made)
     add_output(made)
     add_sources(made)
     return made
@@ -69,19 +70,27 @@ def run(given: argparse.Namespace, output: Output) -> int:
     if len(sources) > 1 and given.origin:
         raise Usage("--origin goes with one zone")
     reader, worst, found = reader_of(given, output), 0, []
-    for source in sources:
-        try:
-            copy = reader.copy(source)
-            found.append((copy, sum_of(copy, given.fold)))
-        except Failure as failure:
-            output.note(failure.sentence())
-            worst = max(worst, failure.status)
+    for it in at_once(sources, given.jobs, lambda source: summed(source, reader, given.fold)):
+        if isinstance(it, Failure):
+            output.note(it.sentence())
+            worst = max(worst, it.status)
+        else:
+            found.append(it)
     if given.json:
         sums = [{**object_of(it), "records": copy.records} for copy, it in found]
         output.json({"format": "zonectl-sum/1", "status": int(worst), "sums": sums}, given.output)
     elif given.output or not (given.quiet and not worst):
         output.result("".join(f"{it}\n" for _, it in found), given.output)
     return worst
+
+
+def summed(source: Source, reader: Reader, is_folded: bool) -> tuple[Copy, Sum] | Failure:
+    """Returns the digest of a source, or why there is none."""
+    try:
+        copy = reader.copy(source)
+        return copy, sum_of(copy, is_folded)
+    except Failure as failure:
+        return failure
 
 
 def object_of(it: Sum) -> dict[str, Any]:
@@ -110,27 +119,34 @@ def check(given: argparse.Namespace, output: Output) -> int:
     """Compares zones with stored digests, a line each."""
     reader = reader_of(given, output)
     worst, lines, sums = 0, [], []
-    for it in list(stored(given.check, reader)):
-        try:
-            copy = replace(reader, origin=_origin(it)).copy(source_of(it.source))
-            if copy.apex != it.zone:
-                raise Undone(f"it is the zone {copy.apex}, and was {it.zone}", it.source)
-            now = sum_of(copy, it.canonical.endswith("-folded"))
-        except Failure as failure:
-            output.note(failure.sentence())
-            worst = max(worst, failure.status)
+    stored_sums = list(stored(given.check, reader))
+    for it, found in zip(stored_sums, at_once(stored_sums, given.jobs, lambda it: again(it, reader))):
+        if isinstance(found, Failure):
+            output.note(found.sentence())
+            worst = max(worst, found.status)
             continue
-        result = "same" if now == it else alarm(it.serial) if now.serial == it.serial else \
-            f"different: serial {now.serial}, was {it.serial}"
+        copy, now = found
+        result = "same" if now == it else "one-serial" if now.serial == it.serial else "different"
+        text = {"one-serial": alarm(it.serial), "different": f"different: serial {now.serial}, was {it.serial}"}.get(result, result)
         worst = max(worst, 0 if now == it else 1)
-        lines.append(f"{one_field(it.source)}: {result}\n")
-        sums.append({**object_of(now), "records": copy.records, "result": result.split(":")[0] if now.serial != it.serial else
-                     "same" if now == it else "one-serial"})
+        lines.append(f"{one_field(it.source)}: {text}\n")
+        sums.append({**object_of(now), "records": copy.records, "result": result})
     if given.json:
         output.json({"format": "zonectl-sum/1", "status": int(worst), "sums": sums}, given.output)
     elif given.output or not (given.quiet and not worst):
         output.result("".join(lines), given.output)
     return worst
+
+
+def again(it: Sum, reader: Reader) -> tuple[Copy, Sum] | Failure:
+    """Returns the digest that the source of a line has now, or why there is none."""
+    try:
+        copy = replace(reader, origin=_origin(it)).copy(source_of(it.source))
+        if copy.apex != it.zone:
+            raise Undone(f"it is the zone {copy.apex}, and was {it.zone}", it.source)
+        return copy, sum_of(copy, it.canonical.endswith("-folded"))
+    except Failure as failure:
+        return failure
 
 
 def _origin(it: Sum) -> str | None:
