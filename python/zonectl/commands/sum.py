@@ -14,7 +14,7 @@ from ..folding import folded_text
 from ..names import absolute
 from ..options import Parser, add_jobs, add_output, add_sources, at_once, reader_of
 from ..outputs import Output
-from ..reading import from_path
+from ..reading import from_descriptor, from_path
 from ..sources import Source, source_of, sources_of
 from ..texts import alarm, one_field
 from ..zones import Copy, Reader
@@ -101,7 +101,8 @@ def object_of(it: Sum) -> dict[str, Any]:
 def stored(path: str, reader: Reader) -> Iterator[Sum]:
     """Yields the lines of a file. Raises Undone at one that isn't such a line."""
     with about(path):
-        text = from_path("/dev/stdin" if path == "-" else path, reader.access.limits).decode("utf-8", "surrogateescape")
+        limits = reader.access.limits
+        text = (from_descriptor(0, limits) if path == "-" else from_path(path, limits)).decode("utf-8", "surrogateescape")
     for number, line in enumerate(text.split("\n"), 1):
         if not line.strip() or line.startswith("#"):
             continue
