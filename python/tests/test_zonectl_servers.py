@@ -10,7 +10,7 @@ import time
 import unittest
 
 from zonectl_support import (
-    EXAMPLES, TLS, Behaviour, InFolder, Ran, Server, command, drips, environment, framed, frames, ran, reset, sends, serving,
+    EXAMPLES, HERE, TLS, Behaviour, InFolder, Ran, Server, command, drips, environment, framed, frames, ran, reset, sends, serving,
     silent, tls_server)
 
 from zonectl import transfer, tsig
@@ -396,6 +396,11 @@ class Decoding(InFolder):
             it = ran("diff", "--json", "file", url)
         self.assertIn('"decoder": "engine"}, "b": {', it.out)
         self.assertIn('"decoder": "zonectl"}', it.out)
+
+    def test_what_bind_sends(self) -> None:
+        name = "rp.example.axfr"
+        it = ran("diff", str(HERE / "bind/rp.example.zone"), self.write(name, (HERE / "bind" / name).read_bytes()))
+        self.assertEqual(it, Ran(0, "same, serial 7, 12 records\n", f"zonectl: {name}: decoded by zonectl: MINFO, RP, AFSDB, RT, PX\n"))
 
     def test_what_cannot_be_decoded_stays_refused(self) -> None:
         records, x = self.records(), b"\xc0\x0c"
