@@ -127,7 +127,7 @@ def tested() -> Iterator[Case]:
 def drawn(seed: int, count: int) -> Iterator[Case]:
     """Zones drawn from a seed, whole and damaged: as files, as transfers, and as files with further types."""
     zones, types, damage = script("random_tests"), script("try_words"), script("compare_programs").damage
-    table = (TOP / "crates/zone_words/specs/Table.antt").read_text()
+    table = (TOP / "crates/type_data/specs/Table.antt").read_text()
     kinds = [kind for _, kind in types.ROW.findall(table)]
     generator = types.Generator(seed)
     for at in range(count):

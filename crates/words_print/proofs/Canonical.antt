@@ -9,12 +9,12 @@ use Rattle.zone_rdata.specs.Item as raw
 use Rattle.zone_rdata.specs.Record.{IsRecord}
 use Rattle.zone_text.proofs.Heads.ClassWords.{class_word_first, class_word_known, time_first}
 use Rattle.zone_text.proofs.Entries.Lines.{whole_form, whole_parts}
-use Rattle.zone_words.proofs.Registered.{generic_data, no_mnemonic}
-use Rattle.zone_words.specs.Data.{joined}
-use Rattle.zone_words.specs.DataItem.{TouchingItem, items_of}
+use Rattle.type_data.proofs.Registered.{generic_data, no_mnemonic}
+use Rattle.type_data.specs.Data.{joined}
+use Rattle.type_data.specs.DataItem.{TouchingItem, items_of}
 use Rattle.zone_words.specs.Entry.{BecomesUnder, IsFurtherRecord, IsFurtherUnder, IsRefused, IsRewriting, SaysAnew, in_generic_form, in_words, kept, no_data, on_more_lines, too_many}
 use Rattle.zone_words.specs.Rewriting.{EachBecomes, Outcome, Refused, whole}
-use Rattle.zone_words.specs.Table.{FurtherType, IsFurtherWord}
+use Rattle.type_data.specs.Table.{FurtherType, IsFurtherWord}
 use Rattle.zone_words.specs.Written.{Anew}
 use Rattle.words_print.proofs.Lines.{shown_text}
 use Rattle.words_print.specs.Shown.{IsRecordLine, IsShownText}

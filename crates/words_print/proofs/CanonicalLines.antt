@@ -13,11 +13,11 @@ use Rattle.zone_text.proofs.Tokens.Cuttings.{one_cut}
 use Rattle.zone_text.specs.Entries.{item_of}
 use Rattle.zone_text.specs.FirstEntry.{IsOneEntry}
 use Rattle.zone_text.specs.Tokens.{Token, text}
-use Rattle.zone_words.proofs.FurtherWords.{further_word_once}
-use Rattle.zone_words.specs.DataItem.{TouchingItem}
-use Rattle.zone_words.specs.Parameters.Printed.{written_touching}
-use Rattle.zone_words.specs.PrintedData.{HasNoWords, PrintsData}
-use Rattle.zone_words.specs.Table.{FurtherType, IsFurtherWord, further_type}
+use Rattle.type_data.proofs.FurtherWords.{further_word_once}
+use Rattle.type_data.specs.DataItem.{TouchingItem}
+use Rattle.type_data.specs.Parameters.Printed.{written_touching}
+use Rattle.type_data.specs.PrintedData.{HasNoWords, PrintsData}
+use Rattle.type_data.specs.Table.{FurtherType, IsFurtherWord, further_type}
 use Rattle.zone_words.specs.WordsLine.{IsHead, generic_line, words_line}
 use Rattle.zone_words.specs.Written.{generic_tokens}
 use Rattle.words_print.proofs.DataEnds.{cut_once, data_cut, form_digits, type_is_further, type_text}

@@ -15,10 +15,10 @@ use Rattle.zone_rdata.proofs.Words.Tables.{each_mnemonic, found_each}
 use Rattle.zone_rdata.specs.Table.{classes, in_class}
 use Rattle.zone_rdata.specs.Words.{IsClass, IsClassWord, by_mnemonic, by_number}
 use Rattle.zone_text.specs.Tokens.{ends_item, text, token_text}
-use Rattle.zone_words.proofs.FurtherWords.{further_word_once}
+use Rattle.type_data.proofs.FurtherWords.{further_word_once}
 use Rattle.zone_words.proofs.Walks.{word_text}
 use Rattle.zone_words.proofs.WrittenWords.{ArePlain, IsPlain, plain_decimal, plain_hex}
-use Rattle.zone_words.specs.Table.{FurtherType, IsFurtherWord, further_of, further_type, further_types}
+use Rattle.type_data.specs.Table.{FurtherType, IsFurtherWord, further_of, further_type, further_types}
 use Rattle.zone_words.specs.Written.{digit_tokens, generic_tokens, word}
 use Rattle.words_print.proofs.Cuts.{IsSpace, NoneOf, SameCut, none_same, one_first, one_last}
 use Rattle.words_print.specs.Machine.Found.{FoundIn, HasNoData, HasNoFeedAtEnd, HasNoSpace, HasNone, IsAroundLast, IsCut, IsWithoutFeed, digit_text, form_of}

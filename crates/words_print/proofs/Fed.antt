@@ -3,8 +3,8 @@ use Rattle.zone_text.proofs.Common.{AllByRecursion-append, List, [], ap, append-
 use Rattle.std.proofs.lemmas.Bool.{false≢true}
 use Rattle.std.specs.Prelude.{◌==◌, length}
 use Rattle.zone_print.specs.Laws.{EndsWithItsFeed, HasNoFeed}
-use Rattle.zone_words.specs.Data.{joined}
-use Rattle.zone_words.specs.Fault.{AppendsStated}
+use Rattle.type_data.specs.Data.{joined}
+use Rattle.type_data.specs.Fault.{AppendsStated}
 use Rattle.words_print.specs.Machine.Found.{IsFirstLine}
 use Rattle.words_print.specs.Printer.{PrinterState, StandsForWords, StandsInPart}
 use Rattle.words_print.specs.Shown.{AreShown, EachIsShown, IsShownLine, IsShownText, unended}

@@ -12,11 +12,11 @@ use Rattle.zone_text.specs.FirstEntry.{IsOneEntry}
 use Rattle.zone_text.specs.Inherited.{class_word}
 use Rattle.zone_text.specs.Statements.{statement_of}
 use Rattle.zone_text.specs.Tokens.{Token, text}
-use Rattle.zone_words.specs.DataItem.{TouchingItem}
+use Rattle.type_data.specs.DataItem.{TouchingItem}
 use Rattle.zone_words.specs.Entry.{IsRewriting}
-use Rattle.zone_words.specs.Parameters.Printed.{written_touching}
-use Rattle.zone_words.specs.PrintedData.{AreItsWords, AreOfAType, PrintsData}
-use Rattle.zone_words.specs.Table.{Fields, FurtherType, further_of, further_type}
+use Rattle.type_data.specs.Parameters.Printed.{written_touching}
+use Rattle.type_data.specs.PrintedData.{AreItsWords, AreOfAType, PrintsData}
+use Rattle.type_data.specs.Table.{Fields, FurtherType, further_of, further_type}
 use Rattle.zone_words.specs.WordsLine.{AreWords, IsHead, generic_line, words_line}
 use Rattle.zone_words.specs.Written.{generic_tokens}
 use Rattle.words_print.specs.Machine.Found.{DoesNotFit, FoundIn, HasData, HasNoData, IsCanonicalLine, IsThatOf, with_octets}

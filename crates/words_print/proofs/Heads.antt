@@ -8,7 +8,7 @@ use Rattle.zone_name.proofs.Texts.Bare.{plain_text}
 use Rattle.zone_name.specs.Spelling.{plain}
 use Rattle.zone_text.proofs.Entries.Begun.{none_left}
 use Rattle.zone_words.proofs.WrittenWords.{word_token}
-use Rattle.zone_words.specs.WordsLine.{IsBareText}
+use Rattle.type_data.specs.StandingItem.{IsBareText}
 use Rattle.words_print.specs.Machine.Found.{IsPlainOctet}
 
 pub plain_octet : (c : ℕ) → 32 < c → (c ≡ 34 → ⊥) → (c ≡ 40 → ⊥) → (c ≡ 41 → ⊥) → (c ≡ 59 → ⊥) → (c ≡ 92 → ⊥) → IsPlainOctet c

@@ -6,7 +6,7 @@ use Rattle.zone_text.proofs.Tokens.CutAgain.{cut_ended}
 use Rattle.zone_words.proofs.Files.{HasDone, NextBecomes, whole_done}
 unfoldable use Rattle.zone_words.proofs.Files.{done_entry}
 use Rattle.zone_words.proofs.Moved.{AreClassed, IsClassed, becomes_moves, before_classed}
-use Rattle.zone_words.specs.Data.{joined}
+use Rattle.type_data.specs.Data.{joined}
 use Rattle.zone_words.specs.Entry.{BecomesUnder, IsRewriting}
 use Rattle.zone_words.specs.Rewriting.{EachBecomes, Outcome, broken, told_of, whole, written_of}
 use Rattle.words_print.specs.Shown.{StatesItsClass}

@@ -2,7 +2,7 @@
 -- class.
 use Rattle.zone_text.proofs.Common.{AllByRecursion, List, [], ap, append-nil, append_assoc, refl, subst, sym, ℕ, ◌++◌, ◌∙◌, ◌∷◌, ◌≡◌}
 use Rattle.zone_print.specs.Laws.{EndsWithItsFeed, HasNoFeed}
-use Rattle.zone_words.specs.Data.{joined}
+use Rattle.type_data.specs.Data.{joined}
 use Rattle.zone_words.specs.Entry.{IsRewriting}
 use Rattle.words_print.proofs.Joined.{EachRewritten, joined_rewriting}
 use Rattle.words_print.specs.Shown.{AreShown, EachIsShown, IsRecordInWords, IsRecordLine, IsShownLine, IsShownText, StatesItsClass, ended, gets_words, no_data, no_words, of_another, too_many_items, unended}

@@ -8,7 +8,7 @@ use Rattle.zone_text.proofs.Tokens.Cuttings.{one_cut}
 use Rattle.zone_text.specs.Entries.{entry_of, item_of}
 use Rattle.zone_text.specs.Tokens.{Token, text}
 use Rattle.zone_words.proofs.OneRewriting.{one_rewriting}
-use Rattle.zone_words.specs.DataItem.{TouchingItem}
+use Rattle.type_data.specs.DataItem.{TouchingItem}
 use Rattle.zone_words.specs.Entry.{BecomesUnder, IsRewriting, SaysAnew, anew, in_generic_form, in_words, kept, most_items, refused}
 use Rattle.zone_words.specs.Rewriter.{RewriterState, StandsForRewriting}
 use Rattle.zone_words.specs.Rewriting.{Outcome, Refused}

@@ -6,7 +6,7 @@ use Rattle.words_print.specs.Machine.Found.{StatesInFew}
 use Rattle.words_print.specs.Shown.{HasTooManyItems, IsRecordInWords, StatesItsClass}
 use Rattle.words_print.specs.declared.class_stated.ClassStated.{ClassStated}
 use Rattle.words_print.specs.declared.class_stated.ClassStated.TheVariants.{No, Untold, Yes}
-use Rattle.zone_words.specs.Fault.{AppendsStated}
+use Rattle.type_data.specs.Fault.{AppendsStated}
 
 pub not_told : (answer : ClassStated) (wanted shown : List ℕ) → (answer ≡ Yes → ⊥) → (answer ≡ No → StatesItsClass shown → ⊥) → (answer ≡ Untold → HasTooManyItems shown) → StatesInFew wanted → IsRecordInWords wanted shown → ⊥
 not_told Yes wanted shown other none many few record_is = other refl

@@ -11,12 +11,12 @@ use Rattle.zone_text.specs.FirstEntry.{IsOneEntry}
 use Rattle.zone_text.specs.Inherited.{class_word}
 use Rattle.zone_text.specs.Statements.{statement_of}
 use Rattle.zone_text.specs.Tokens.{Token, text}
-use Rattle.zone_words.specs.Data.{joined}
-use Rattle.zone_words.specs.DataItem.{TouchingItem}
+use Rattle.type_data.specs.Data.{joined}
+use Rattle.type_data.specs.DataItem.{TouchingItem}
 use Rattle.zone_words.specs.Entry.{IsRewriting, most_items}
-use Rattle.zone_words.specs.Parameters.Printed.{written_touching}
-use Rattle.zone_words.specs.PrintedData.{HasNoWords, PrintsData}
-use Rattle.zone_words.specs.Table.{FurtherType, further_type}
+use Rattle.type_data.specs.Parameters.Printed.{written_touching}
+use Rattle.type_data.specs.PrintedData.{HasNoWords, PrintsData}
+use Rattle.type_data.specs.Table.{FurtherType, further_type}
 use Rattle.zone_words.specs.Written.{generic_tokens}
 
 -- the octets are one record of a master file, which states its class, and the line feed that ends

@@ -1,7 +1,7 @@
 //! What stands before the class word on a line of a canonical text.
 ghost use Rattle.std.specs.Prelude.{◌≡◌, ◌≢◌, EachIndex, IfSome, slice_get, slice_index, true};
 ghost use Rattle.words_print.specs.Machine.Found.{AreOwnerAndTtl, IsPlainOctet};
-ghost use Rattle.zone_words.specs.WordsLine.{IsBareText};
+ghost use Rattle.type_data.specs.StandingItem.{IsBareText};
 
 use crate::generic_line::around_first;
 use zone_text::ttl_of;

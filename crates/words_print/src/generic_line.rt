@@ -6,8 +6,8 @@ ghost use Rattle.words_print.specs.Shown.{IsAtAWord};
 ghost use Rattle.zone_rdata.specs.Words.{IsClass, IsClassWord};
 
 use memchr::{memchr, memrchr, memrchr2};
+use type_data::{FurtherType, further_type_of};
 use zone_rdata::Class;
-use zone_words::{FurtherType, further_type_of};
 
 /// A line around the last word before its last backslash.
 #[derive(Clone, Copy)]

@@ -6,11 +6,11 @@ ghost use Rattle.zone_name.specs.Common.{AreOctets};
 ghost use Rattle.zone_print.specs.Canonical.{lines};
 ghost use Rattle.zone_rdata.specs.Record.{IsRecord, Record};
 ghost use Rattle.zone_rdata.specs.Table.{in_class};
-ghost use Rattle.zone_words.specs.Data.{joined};
-ghost use Rattle.zone_words.specs.DataItem.{TouchingItem};
+ghost use Rattle.type_data.specs.Data.{joined};
+ghost use Rattle.type_data.specs.DataItem.{TouchingItem};
 ghost use Rattle.zone_words.specs.Entry.{IsRewriting};
-ghost use Rattle.zone_words.specs.PrintedData.{HasNoWords, PrintsData};
-ghost use Rattle.zone_words.specs.Table.{FurtherType, further_type};
+ghost use Rattle.type_data.specs.PrintedData.{HasNoWords, PrintsData};
+ghost use Rattle.type_data.specs.Table.{FurtherType, further_type};
 ghost use Rattle.zone_words.specs.WordsLine.{IsHead, generic_line, words_line};
 
 use zone_print::laws::each_line_is_one_entry;

@@ -6,20 +6,21 @@ ghost use Rattle.zone_name.specs.Common.{AreOctets};
 ghost use Rattle.zone_rdata.specs.Item.{raw};
 ghost use Rattle.zone_text.specs.FirstEntry.{IsFirstEntry};
 ghost use Rattle.zone_words.specs.Entry.{IsRewriting};
-ghost use Rattle.zone_words.specs.Fault.{AppendsStated};
-ghost use Rattle.zone_words.specs.PrintedData.{AreItsWords, AreOfAType, HasNoWords};
-ghost use Rattle.zone_words.specs.Table.{of_code};
+ghost use Rattle.type_data.specs.Fault.{AppendsStated};
+ghost use Rattle.type_data.specs.PrintedData.{AreItsWords, AreOfAType, HasNoWords};
+ghost use Rattle.type_data.specs.Table.{of_code};
 
 use crate::canonical_head::{are_owner_and_ttl, is_plain_word};
 use crate::class_stated::{ClassStated, class_stated, room_for_items};
 use crate::generic_line::{GenericLine, generic_line};
 use std::alloc::{AllocError, Global};
+use type_data::{Unprinted, print_data};
 use zone_name::CasedName;
 use zone_name::laws::are_octets;
 use zone_rdata::{Item, push_octets_of_hex};
 use zone_words::laws::rewriting_is_unique;
 use zone_words::laws::words::{a_line_in_words_is_rewritten, the_words_of_data};
-use zone_words::{Rewriter, Unprinted, print_data, push_generic};
+use zone_words::{Rewriter, push_generic};
 
 /// A printer of lines in words. It keeps the room that it needs from line to line, and nothing in
 /// it.

@@ -4,7 +4,7 @@ ghost use Rattle.words_print.specs.Machine.Found.{IsFirstLine};
 ghost use Rattle.words_print.specs.Printer.{StandsForWords, StandsInPart, all_given};
 ghost use Rattle.words_print.specs.Shown.{IsShownLine, IsShownText};
 ghost use Rattle.zone_print.specs.Laws.{HasNoFeed};
-ghost use Rattle.zone_words.specs.Fault.{AppendsStated};
+ghost use Rattle.type_data.specs.Fault.{AppendsStated};
 
 use crate::line_printer::LinePrinter;
 use memchr::memchr;

@@ -1,4 +1,4 @@
-//! The tests of the public calls of `zone_words`, `words_print` and `words_command`.
+//! The tests of the public calls of `type_data`, `zone_words`, `words_print` and `words_command`.
 #![tactic(auto)]
 
 #[cfg(test)]

@@ -1,14 +1,14 @@
 -- One thing becomes of an entry.
 use Rattle.zone_words.proofs.Common.{Anew, AreOnOneLine, BecomesUnder, DataFails, Entry, FurtherType, IsFurtherUnder, IsGeneric, IsRefused, Labels, LineFeedWithinQuotes, List, Outcome, Refused, SaysAnew, StatesData, Token, TokensFail, TokensSay, TooManyItems, TouchingItem, WordsFault, Written, [], anew, ap, arith, codes, entry_of, flat_map, flat_map-append, in_generic_form, item_of, kept, length, length-append, no_data, on_more_lines, refl, refusal, refused, renamed, subst, sym, too_many, touching_items, true, written, written_text, ℕ, ◌++◌, ◌+◌, ◌∙◌, ◌∷◌, ◌≡◌}
 use Rattle.zone_text.specs.Tokens as tokens
-use Rattle.zone_words.proofs.DataLaws.{data_once, data_or_fault}
-use Rattle.zone_words.proofs.FaultsOnce.{data_fault_once}
+use Rattle.type_data.proofs.DataLaws.{data_once, data_or_fault}
+use Rattle.type_data.proofs.FaultsOnce.{data_fault_once}
 use Rattle.zone_words.proofs.Origins.{origin_once}
 use Rattle.zone_words.proofs.Turns.{Under, fails_in_words, fails_under, items_behind, record_once, says_under}
-use Rattle.zone_words.specs.DataItem.{items_of}
+use Rattle.type_data.specs.DataItem.{items_of}
 use Rattle.zone_words.specs.Entry.{in_words}
-use Rattle.zone_words.specs.Data.{in_order}
-use Rattle.zone_words.specs.Table.{fields_in}
+use Rattle.type_data.specs.Data.{in_order}
+use Rattle.type_data.specs.Table.{fields_in}
 use Rattle.zone_words.specs.Written.{in_octets}
 
 -- ---- the type's word stands at one place

@@ -51,42 +51,42 @@ pub use Rattle.zone_text.specs.Inherited.{HasClass, class_word, latest}
 pub use Rattle.zone_text.specs.Stated.{directive_in, statement_in}
 pub use Rattle.zone_text.specs.Statements.{Parts, Statement, Word, class_among, directive, includes, owned, parts_after, parts_in, sets_origin, sets_ttl, statement_by, statement_of, unknown, unowned}
 pub use Rattle.zone_text.specs.Tokens.{AllFollow, AreTokensOf, Cuts, IsToken, MayFollow, Token, blank, closing, comment, ends_item, is_blank, line_feed, opening, text}
-pub use Rattle.zone_words.proofs.PassedFaults.{fault_answered, fault_passed, found_passed}
-pub use Rattle.zone_words.specs.Data.{AFieldFails, DataFails, IfDataFault, StateParts, StatesData, at_field, items_left, last_name, too_long}
-pub use Rattle.zone_words.specs.DataItem.{TouchingItem, given, raw_item}
+pub use Rattle.type_data.proofs.PassedFaults.{fault_answered, fault_passed, found_passed}
+pub use Rattle.type_data.specs.Data.{AFieldFails, DataFails, IfDataFault, StateParts, StatesData, at_field, items_left, last_name, too_long}
+pub use Rattle.type_data.specs.DataItem.{TouchingItem, given, raw_item}
 pub use Rattle.zone_words.specs.Entry.{AreOnOneLine, BecomesUnder, IsFurtherRecord, IsFurtherUnder, IsRefused, IsRewriting, SaysAnew, TokensFail, TokensSay, anew, in_generic_form, kept, line_feeds_in, most_items, no_data, on_more_lines, refusal, refused, too_many, touching_items}
-pub use Rattle.zone_words.specs.Fault.{AppendsStated, IfFault, NothingStated}
-pub use Rattle.zone_words.specs.Field.{FailsBare, FailsField, Items, StatesBare, StatesField, field_meaning, items_after, own_count, own_items, takes_one, text_meaning}
+pub use Rattle.type_data.specs.Fault.{AppendsStated, IfFault, NothingStated}
+pub use Rattle.type_data.specs.Field.{FailsBare, FailsField, Items, StatesBare, StatesField, field_meaning, items_after, own_count, own_items, takes_one, text_meaning}
 pub use Rattle.zone_words.specs.Inherited.{IsInherited, IsInternetAfter, IsOneOrNone}
-pub use Rattle.zone_words.specs.Kinds.Bitmap.{AscendFrom, HasBit, HaveType, IsWindow, Window, window_octets}
-pub use Rattle.zone_words.specs.Kinds.Calendar.{IsDateTime, days_of_years}
-pub use Rattle.zone_words.specs.Kinds.Hex.{IsHex}
-pub use Rattle.zone_words.specs.Kinds.Location.{AreCentimetres, ArePartsOfDegree, BeginsWithAltitude, BeginsWithPlace, BeginsWithSize, FailsLocation, IsAltitude, IsAngle, IsFirstDigit, IsHalfOf, IsLocation, IsScaled, OfBareItem, StatesLocation, above, below, from_middle, letter, location_octets, most_degrees, with_point, without_m}
-pub use Rattle.zone_words.specs.Kinds.Number.{IsInOctets, NumberFails, digits_number}
-pub use Rattle.zone_words.specs.Kinds.Types.{FailsPerhapsTypes, FailsTypes, NameType, NamesAType, NamesType, StatesPerhapsTypes, StatesTypes}
-pub use Rattle.zone_words.specs.Machine.Cuts.{IsCutFirst, IsCutLast, IsMissing}
+pub use Rattle.type_data.specs.Kinds.Bitmap.{AscendFrom, HasBit, HaveType, IsWindow, Window, window_octets}
+pub use Rattle.type_data.specs.Kinds.Time.Calendar.{IsDateTime, days_of_years}
+pub use Rattle.type_data.specs.Kinds.Hexadecimal.{IsHex}
+pub use Rattle.type_data.specs.Kinds.Location.{AreCentimetres, ArePartsOfDegree, BeginsWithAltitude, BeginsWithPlace, BeginsWithSize, FailsLocation, IsAltitude, IsAngle, IsFirstDigit, IsHalfOf, IsLocation, IsScaled, OfBareItem, StatesLocation, above, below, from_middle, letter, location_octets, most_degrees, with_point, without_m}
+pub use Rattle.type_data.specs.Kinds.Number.{IsInOctets, NumberFails, digits_number}
+pub use Rattle.type_data.specs.Kinds.Types.{FailsPerhapsTypes, FailsTypes, NameType, NamesAType, NamesType, StatesPerhapsTypes, StatesTypes}
+pub use Rattle.type_data.specs.Machine.Cuts.{IsCutFirst, IsCutLast, IsMissing}
 pub use Rattle.zone_words.specs.Machine.FedWriting.{FollowInPart, FollowOn, HasWritten, HasWrittenAll, HasWrittenInPart, IsFedWriter, IsLeft, PushesOctets, TakesFront, WritesAll, count_reach, held_of, line_reach, state_of}
 pub use Rattle.zone_words.specs.Machine.Further.{FindsParts, IsRecordOf, NoneIsFurther}
-pub use Rattle.zone_words.specs.Machine.Locations.{BeginsWithMinus, IsAfterMinus, IsCutAtHalf, IsNoHalf, IsWholeIn, UpTo, minus}
-pub use Rattle.zone_words.specs.Machine.Parameters.{FailsEscaped, HasName, HasNoItems, IsAddressOf, IsKeyNumber, wrong}
+pub use Rattle.type_data.specs.Kinds.Location.Machine.{BeginsWithMinus, IsAfterMinus, IsCutAtHalf, IsNoHalf, IsWholeIn, UpTo, minus}
+pub use Rattle.type_data.specs.Parameters.Machine.Parts.{FailsEscaped, HasName, HasNoItems, IsAddressOf, IsKeyNumber, wrong}
 pub use Rattle.zone_words.specs.Machine.KnownItems.{FollowsItem, FollowsItems, FrontIs, KeepsGap, PassesGap, StandsAround, before_item, from_item, past_items}
-pub use Rattle.zone_words.specs.Machine.Stated.{AddsParameter, AreSent, FailsAfter, HasStated, Holds, again, all_sent, keyless, valueless}
+pub use Rattle.type_data.specs.Parameters.Machine.Stated.{AddsParameter, AreSent, FailsAfter, HasStated, Holds, again, all_sent, keyless, valueless}
 pub use Rattle.zone_words.specs.Machine.Walking.{BeginsBlank, WritesBetween}
-pub use Rattle.zone_words.specs.Mnemonics.{IsAlgorithm, IsNumberOrMnemonic, IsTypeWord, algorithms, certificate_types, further_algorithms, name_of}
+pub use Rattle.type_data.specs.Mnemonics.{IsAlgorithm, IsNumberOrMnemonic, IsTypeWord, algorithms, certificate_types, further_algorithms, name_of}
 pub use Rattle.zone_words.specs.Origin.{IsCasedOrigin, NamesOrigin, origin_items}
-pub use Rattle.zone_words.specs.Parameters.{AreComplete, AreOnce, Ascend, BeginWithKey, BeginWithNoKey, FailsParameters, IsNew, IsShort, IsThere, Parameter, Precede, Sent, StateEach, StatesParameter, StatesParameters, all_required, bad_value, long_value, missing_key, no_key, repeated_key, sent, sent_octets}
-pub use Rattle.zone_words.specs.Parameters.Keys.{SpellsKey, key_text}
-pub use Rattle.zone_words.specs.Parameters.Text.{BeginWith, BeginWithTouchingQuote, ParameterText, alone, bare_value, placed, quoted_value}
-pub use Rattle.zone_words.specs.Parameters.Value.{AscendAbove, FailsValue, HasEscapes, IsKeyText, IsProtocol, ListsAddresses, ListsItems, ListsKeys, ListsProtocols, RequiresKeys, StatesPath, StatesValue, bad_escape, listed}
+pub use Rattle.type_data.specs.Parameters.{AreComplete, AreOnce, Ascend, BeginWithKey, BeginWithNoKey, FailsParameters, IsNew, IsShort, IsThere, Parameter, Precede, Sent, StateEach, StatesParameter, StatesParameters, all_required, bad_value, long_value, missing_key, no_key, repeated_key, sent, sent_octets}
+pub use Rattle.type_data.specs.Parameters.Keys.{SpellsKey, key_text}
+pub use Rattle.type_data.specs.Parameters.Text.{BeginWith, BeginWithTouchingQuote, ParameterText, alone, bare_value, placed, quoted_value}
+pub use Rattle.type_data.specs.Parameters.Value.{AscendAbove, FailsValue, HasEscapes, IsKeyText, IsProtocol, ListsAddresses, ListsItems, ListsKeys, ListsProtocols, RequiresKeys, StatesPath, StatesValue, bad_escape, listed}
 pub use Rattle.zone_words.specs.Refusal.{AddsTold, AreInShort, first_of, refused_of}
 pub use Rattle.zone_words.specs.Rewriter.{GoesOn, HeldText, IsSoFar, RewriterState, RewritesFile, StandsForRewriting, StandsInPart, all_given, going, stopped}
 pub use Rattle.zone_words.specs.Rewriting.{AreEntries, Becomes, EachBecomes, IsRewritten, IsRewrittenInPart, IsRewrittenSoFar, IsStopped, Outcome, Refused, broken, told_of, written_of}
-pub use Rattle.zone_words.specs.Table.{FurtherType, IsFurtherWord, NamedField, RegisteredType, address_kind, field_of, further_in, further_names, further_of, further_type, further_types, in_words, is_one, key_kind, name_only, number_at, registered_of, registered_types, type_registry}
-pub use Rattle.zone_words.specs.Unescaped.{ComesToBadEscape, Unescaped}
+pub use Rattle.type_data.specs.Table.{FurtherType, IsFurtherWord, NamedField, RegisteredType, address_kind, field_of, further_in, further_names, further_of, further_type, further_types, in_words, is_one, key_kind, name_only, number_at, registered_of, registered_types, type_registry}
+pub use Rattle.type_data.specs.Unescaped.{ComesToBadEscape, Unescaped}
 pub use Rattle.zone_words.specs.Written.{Anew, digit_tokens, generic_tokens, renamed, stays, type_token, word, written}
-pub use Rattle.zone_words.specs.declared.data_item.DataItem.{DataItem}
-pub use Rattle.zone_words.specs.declared.fault.WordsFault.{WordsFault}
-pub use Rattle.zone_words.specs.declared.fault.WordsFault.TheVariants.{BadEscape, LineFeedWithinQuotes, MandatoryKeyMissing, NotAKey, NotALocation, NotAName, NotATime, RepeatedKey, TooLong, TooManyItems}
+pub use Rattle.type_data.specs.declared.data_item.DataItem.{DataItem}
+pub use Rattle.type_data.specs.declared.fault.WordsFault.{WordsFault}
+pub use Rattle.type_data.specs.declared.fault.WordsFault.TheVariants.{BadEscape, LineFeedWithinQuotes, MandatoryKeyMissing, NotAKey, NotALocation, NotAName, NotATime, RepeatedKey, TooLong, TooManyItems}
 pub use Rattle.zone_words.specs.declared.inherited.Inherited.{Inherited}
-pub use Rattle.zone_words.specs.declared.parameters.key.Key.{Key}
-pub use Rattle.zone_words.specs.declared.parameters.key.Key.TheVariants.{Alpn, DohPath, Ech, Ipv4Hint, Ipv6Hint, Mandatory, NoDefaultAlpn, Numbered, Ohttp, Port}
+pub use Rattle.type_data.specs.declared.parameters.key.Key.{Key}
+pub use Rattle.type_data.specs.declared.parameters.key.Key.TheVariants.{Alpn, DohPath, Ech, Ipv4Hint, Ipv6Hint, Mandatory, NoDefaultAlpn, Numbered, Ohttp, Port}

@@ -7,9 +7,10 @@ use Rattle.zone_rdata.specs.Item as raw
 use Rattle.zone_text.specs.FirstEntry.{IsOneEntry}
 use Rattle.zone_words.proofs.HeadLines.{items_spelt, line_cut, line_ended, of_head, tokens}
 use Rattle.zone_words.proofs.WrittenWords.{hex_some, mark_is, plain_decimal, plain_hex, some_decimal, type_is, word_token}
-use Rattle.zone_words.specs.DataItem.{items_of}
-use Rattle.zone_words.specs.Parameters.Printed.{written_touching}
-use Rattle.zone_words.specs.WordsLine.{IsHead, StandsBehind, generic_line}
+use Rattle.type_data.specs.DataItem.{items_of}
+use Rattle.type_data.specs.Parameters.Printed.{written_touching}
+use Rattle.type_data.specs.StandingItem.{StandsBehind}
+use Rattle.zone_words.specs.WordsLine.{IsHead, generic_line}
 
 abbrev after_blank : RawItem → TouchingItem
 after_blank item = record { item = item; touches = false }

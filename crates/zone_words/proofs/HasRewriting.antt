@@ -5,15 +5,15 @@ use Rattle.zone_text.proofs.Tokens.CutAgain.{joined}
 use Rattle.zone_text.specs.Outcome.{AreOctetItems}
 use Rattle.zone_text.specs.Tokens as tokens
 use Rattle.zone_words.proofs.Common.{AllByRecursion-back, AllByRecursion-front, Anew, AreOctets, AreOnOneLine, BecomesUnder, Breaks, Cuts, EachBecomes, Entry, Fault, FurtherType, IsCasedOrigin, IsFurtherRecord, IsFurtherUnder, IsGeneric, IsMnemonic, IsRefused, IsRewriting, Labels, LineFeedWithinQuotes, List, Outcome, RawItem, Refused, SaysAnew, Token, TooManyItems, TouchingItem, Written, [], and_last, anew, ap, append_assoc, arith, blank, broken, by_mnemonic, cases_lt, closing, codes, comment, count_by, cut_from, cut_or_broken, cut_whole, entries_text, entry_of, flat_map, flat_map-append, further_names, in_generic_form, inl, inr, item_of, item_text, kept, length, line_feed, most_items, no_data, on_more_lines, opening, refl, refusal, refused, renamed, subst, sym, text, text_of_entries, token_text, told_of, too_many, touching_items, true, written, written_of, written_text, zero, ℕ, ◌++◌, ◌+◌, ◌<◌, ◌==◌, ◌∙◌, ◌∷◌, ◌≡◌, ◌≤◌, ◌⊎◌}
-use Rattle.zone_words.proofs.Decided.Entries.{AreLowEntries, OriginChoice, RecordChoice, on_one_line_or_not, origin_or_not, record_or_not}
-use Rattle.zone_words.proofs.Decided.Fields.{DataOrFault, data_decided}
-use Rattle.zone_words.proofs.FurtherWords.{further_number_once}
+use Rattle.zone_words.proofs.DecidedEntries.{AreLowEntries, OriginChoice, RecordChoice, on_one_line_or_not, origin_or_not, record_or_not}
+use Rattle.type_data.proofs.Decided.Fields.{DataOrFault, data_decided}
+use Rattle.type_data.proofs.FurtherWords.{further_number_once}
 use Rattle.zone_words.proofs.Turns.{IsSplit, fails_in_words, fails_under, items_behind, record_once, says_under, split_there}
-use Rattle.zone_words.specs.Data.{in_order}
-use Rattle.zone_words.specs.DataItem.{items_of}
+use Rattle.type_data.specs.Data.{in_order}
+use Rattle.type_data.specs.DataItem.{items_of}
 use Rattle.zone_words.specs.Entry.{in_words}
 use Rattle.zone_words.specs.Rewriting.{whole}
-use Rattle.zone_words.specs.Table.{fields_in}
+use Rattle.type_data.specs.Table.{fields_in}
 use Rattle.zone_words.specs.Written.{in_octets}
 use Rattle.zone_rdata.proofs.Words.OneWord.{mnemonic_or_not}
 use Rattle.zone_rdata.proofs.Items.ItemLaws.{marked_or_not}

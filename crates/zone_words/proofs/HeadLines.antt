@@ -10,9 +10,10 @@ use Rattle.zone_rdata.specs.Item as raw
 use Rattle.zone_rdata.specs.Text.{written_item}
 use Rattle.zone_text.specs.Entries.{Cut}
 use Rattle.zone_text.specs.Tokens.{AllFollow, MayFollow, depth_after}
-use Rattle.zone_words.specs.DataItem.{items_of}
-use Rattle.zone_words.specs.Parameters.Printed.{written_touching}
-use Rattle.zone_words.specs.WordsLine.{IsHead, IsOwnerlessHead, IsQuoted, Stands, StandsBehind}
+use Rattle.type_data.specs.DataItem.{items_of}
+use Rattle.type_data.specs.Parameters.Printed.{written_touching}
+use Rattle.type_data.specs.StandingItem.{IsQuoted, Stands, StandsBehind}
+use Rattle.zone_words.specs.WordsLine.{IsHead, IsOwnerlessHead}
 
 -- ---- the tokens of items
 

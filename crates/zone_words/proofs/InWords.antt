@@ -15,10 +15,11 @@ use Rattle.zone_text.specs.Inherited.{class_word}
 use Rattle.zone_text.specs.Records.{HasValue}
 use Rattle.zone_text.specs.Statements.{begins_with_digit, class, is_class_word, ttl}
 use Rattle.zone_words.proofs.WrittenWords.{ArePlain, word_token}
-use Rattle.zone_words.specs.DataItem.{items_of}
+use Rattle.type_data.specs.DataItem.{items_of}
 use Rattle.zone_words.specs.Entry.{in_words}
 use Rattle.zone_words.specs.Rewriting.{EachBecomes, whole}
-use Rattle.zone_words.specs.WordsLine.{AreWords, IsHead, IsOwnerlessHead, StandsBehind, generic_line, words_line}
+use Rattle.type_data.specs.StandingItem.{StandsBehind}
+use Rattle.zone_words.specs.WordsLine.{AreWords, IsHead, IsOwnerlessHead, generic_line, words_line}
 use Rattle.zone_words.specs.Written.{in_octets}
 use Rattle.zone_words.proofs.HeadLines.{IsFront, line_cut, line_ended, of_head, of_ownerless, one_line, rest_items, tail, tail_stays, tail_touching, tokens}
 

@@ -20,7 +20,7 @@ use Rattle.zone_words.proofs.JoinedKinds.{no_layout, no_start, type_numbered}
 use Rattle.zone_words.proofs.JoinedRefused.{HasType, form_read, head_of, type_in}
 use Rattle.zone_words.proofs.SameStatements.{WordStands, first_same, items_after, new_items, none_before, number_in, old_items, parts_of, too_short, type_item, type_stands, type_text}
 use Rattle.zone_words.proofs.Turns.{items_behind, no_directive}
-use Rattle.zone_words.specs.DataItem.{items_of}
+use Rattle.type_data.specs.DataItem.{items_of}
 use Rattle.zone_words.specs.Entry.{in_words}
 use Rattle.zone_words.specs.WithWords.{HasItsData, HasItsParts, LeaveAlike}
 use Rattle.zone_rdata.specs.Spelling as spelling

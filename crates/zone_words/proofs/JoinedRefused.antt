@@ -10,7 +10,7 @@ use Rattle.zone_text.specs.Records.{EntryStates, HasContents, HasHead, HasValue,
 use Rattle.zone_text.specs.Statements.{no_items}
 use Rattle.zone_words.proofs.JoinedKinds.{further_kind, no_layout}
 use Rattle.zone_words.proofs.Turns.{fails_in_words, fails_under}
-use Rattle.zone_words.specs.DataItem.{items_of}
+use Rattle.type_data.specs.DataItem.{items_of}
 use Rattle.zone_rdata.proofs.Items.ItemLaws.{generic_marks}
 
 -- data without a layout is stated in the generic form alone

@@ -6,7 +6,7 @@ use Rattle.zone_name.specs.Spelling.{decimal}
 use Rattle.zone_words.proofs.EntryShapes.{AreFlat, IsOne, IsUnended, anew_follow, anew_one, anew_unended, front_depth, generic_flat, written_depth}
 use Rattle.zone_words.proofs.WrittenWords.{generic_are, type_is}
 use Rattle.zone_words.specs.CutAlike.{HaveAsManyLines, IsKeptOrAnew, is_anew, is_kept}
-use Rattle.zone_words.specs.DataItem.{items_of}
+use Rattle.type_data.specs.DataItem.{items_of}
 use Rattle.zone_words.specs.Entry.{in_words}
 use Rattle.zone_words.specs.Written.{in_octets}
 

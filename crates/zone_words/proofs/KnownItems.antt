@@ -9,7 +9,7 @@ use Rattle.zone_rdata.specs.Item as items
 use Rattle.zone_text.specs.Tokens.{bare, quoted}
 use Rattle.std.proofs.Common.{Bor}
 use Rattle.std.specs.Prelude.{IfNone, IfSome, None, Option, Some}
-use Rattle.zone_words.specs.DataItem.{items_of}
+use Rattle.type_data.specs.DataItem.{items_of}
 use Rattle.zone_words.specs.Machine.KnownItems.{is_between}
 use Rattle.zone_words.proofs.Turns.{items_behind}
 

@@ -4,7 +4,7 @@ use Rattle.zone_words.proofs.CutEntries.{IsWholeEntry}
 use Rattle.zone_words.proofs.RewrittenCut.{IsCutBroken, IsCutWhole, cut_broken_text, cut_whole_text, news}
 use Rattle.zone_words.proofs.KeptEntries.{becomes_keeps}
 use Rattle.zone_words.proofs.SameStatements.{AlikeEntries, anew_again, anew_entry_alike}
-use Rattle.zone_words.specs.DataItem.{items_of}
+use Rattle.type_data.specs.DataItem.{items_of}
 use Rattle.zone_words.specs.Entry.{in_words}
 use Rattle.zone_words.specs.Rewriting.{whole}
 

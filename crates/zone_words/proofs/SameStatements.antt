@@ -8,7 +8,7 @@ use Rattle.zone_rdata.specs.Item as raw
 use Rattle.zone_text.proofs.Heads.PartsLeft.{parts_behind}
 use Rattle.zone_text.proofs.Heads.WordsLeft.{next_part}
 use Rattle.zone_words.proofs.Turns.{fails_in_words, fails_under, items_behind, no_directive, no_origin, says_under}
-use Rattle.zone_words.specs.DataItem.{items_of}
+use Rattle.type_data.specs.DataItem.{items_of}
 use Rattle.zone_words.specs.Entry.{in_words}
 use Rattle.zone_words.specs.Written.{in_octets}
 

@@ -8,17 +8,17 @@ use Rattle.zone_text.proofs.Heads.PartsLeft.{parts_behind}
 use Rattle.zone_text.specs.Kept.{AreKept}
 use Rattle.zone_text.specs.Statements.{no_items}
 use Rattle.zone_text.specs.Tokens as tokens
-use Rattle.zone_words.proofs.FurtherWords.{further_word_once}
+use Rattle.type_data.proofs.FurtherWords.{further_word_once}
 use Rattle.zone_words.proofs.KeptEntries.{bare_feedless}
 use Rattle.zone_words.specs.Machine.Further.{QuotesAreOnOneLine, quoted_feeds}
 use Rattle.zone_words.proofs.KeptRecords.{AlikeForms, kept_forms, leaves_too, none_by, record_there}
-use Rattle.zone_words.specs.DataItem.{items_of}
+use Rattle.type_data.specs.DataItem.{items_of}
 use Rattle.zone_words.specs.Entry.{in_words}
 use Rattle.zone_words.specs.Machine.EntryWriting.{PushesEntry}
 use Rattle.zone_words.specs.Machine.Further.{IsForm}
 use Rattle.zone_words.specs.Machine.Turn.{AreInWords, AreOfRecord, IsTurnWritten, SayAround, StandsBeside, TakesRecordsTurn, TakesTurn, TurnIs, WritesTurn, refusal_in, told_by}
-use Rattle.zone_words.specs.Data.{in_order}
-use Rattle.zone_words.specs.Table.{fields_in}
+use Rattle.type_data.specs.Data.{in_order}
+use Rattle.type_data.specs.Table.{fields_in}
 use Rattle.zone_words.specs.Written.{in_octets}
 use Rattle.zone_words.specs.declared.entry_form.EntryForm.{EntryForm}
 use Rattle.zone_words.specs.declared.entry_writer.EntryWriter.{EntryWriter}

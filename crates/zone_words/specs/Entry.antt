@@ -13,14 +13,14 @@ use Rattle.zone_text.specs.Inherited.{HasClass}
 use Rattle.zone_text.specs.Records.{HasValue}
 use Rattle.zone_text.specs.Statements.{Parts, parts_in, statement_of}
 use Rattle.zone_text.specs.Tokens.{Token, bare, quoted}
-use Rattle.zone_words.specs.Data.{StatesData, DataFails, in_order}
-use Rattle.zone_words.specs.DataItem.{TouchingItem, items_of}
+use Rattle.type_data.specs.Data.{StatesData, DataFails, in_order}
+use Rattle.type_data.specs.DataItem.{TouchingItem, items_of}
 use Rattle.zone_words.specs.Origin.{IsCasedOrigin}
 use Rattle.zone_words.specs.Rewriting.{Outcome, Refused, IsRewritten}
-use Rattle.zone_words.specs.Table.{FurtherType, fields_in, further_names, IsFurtherWord}
+use Rattle.type_data.specs.Table.{FurtherType, fields_in, further_names, IsFurtherWord}
 use Rattle.zone_words.specs.Written.{Anew, renamed, in_octets, written}
-use Rattle.zone_words.specs.declared.fault.WordsFault.{WordsFault}
-use Rattle.zone_words.specs.declared.fault.WordsFault.TheVariants.{TooManyItems, LineFeedWithinQuotes}
+use Rattle.type_data.specs.declared.fault.WordsFault.{WordsFault}
+use Rattle.type_data.specs.declared.fault.WordsFault.TheVariants.{TooManyItems, LineFeedWithinQuotes}
 
 -- the items of tokens, each with whether it directly follows another
 abbrev pub touching_items : Bool → List Token → List TouchingItem

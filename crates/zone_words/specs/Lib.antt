@@ -1,15 +1,3 @@
-pub mod DataItem
-pub mod Fault
-pub mod Mnemonics
-pub mod FirstItem
-pub mod EachItem
-pub mod Kinds
-pub mod Field
-pub mod Table
-pub mod Data
-pub mod Parameters
-pub mod Printed
-pub mod PrintedData
 pub mod Machine
 pub mod Written
 pub mod Rewriting
@@ -21,7 +9,5 @@ pub mod Refusal
 pub mod Rewriter
 pub mod NoFurther
 pub mod CutAlike
-pub mod FaultText
-pub mod Unescaped
 pub mod WordsLine
 pub mod WithWords

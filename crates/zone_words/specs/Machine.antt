@@ -1,25 +1,7 @@
 -- What only private functions and proofs cite.
-pub mod Windows
 pub mod Walking
 pub mod KnownItems
-pub mod Numbers
-pub mod Strings
-pub mod Fields
-pub mod PrintedFields
-pub mod HostIdentity
 pub mod EntryWriting
 pub mod FedWriting
 pub mod Further
 pub mod Turn
-pub mod Pairs
-pub mod Groups
-pub mod Parameters
-pub mod PrintedParameters
-pub mod Stated
-pub mod Cuts
-pub mod Prefixes
-pub mod Locations
-pub mod Taking
-pub mod Names
-pub mod PrintedTypes
-pub mod Hashes

@@ -5,7 +5,7 @@ use Rattle.zone_name.specs.Common.{NothingIs}
 use Rattle.zone_name.specs.Spelling.{written_text}
 use Rattle.zone_text.specs.Decided.{AreTokens}
 use Rattle.zone_text.specs.Tokens.{Token, bare}
-use Rattle.zone_words.specs.Table.{IsFurtherWord}
+use Rattle.type_data.specs.Table.{IsFurtherWord}
 
 -- the token is no bare item that is the word of a further type
 abbrev pub IsNoFurtherWord : Token → Type 0

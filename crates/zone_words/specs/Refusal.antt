@@ -1,7 +1,7 @@
 -- What is told of the entries that state no data, as the code holds it.
 use Rattle.std.specs.Prelude.{◌≡◌, ℕ, ◌+◌, List, [], ◌∷◌, ◌++◌, length, Option, Some, None, codes, decimal, option_map}
 use Rattle.std.specs.Option.{option_or}
-use Rattle.zone_words.specs.FaultText.{fault_text}
+use Rattle.type_data.specs.FaultText.{fault_text}
 use Rattle.zone_words.specs.Rewriting.{Refused}
 use Rattle.zone_words.specs.declared.refusal.Refusal.{Refusal}
 use Rattle.zone_words.specs.declared.refusal.Refusals.{Refusals}

@@ -7,7 +7,7 @@ use Rattle.zone_text.specs.Breaks.{Breaks}
 use Rattle.zone_text.specs.Entries.{Entry, and_last, cut_from, entry_of}
 use Rattle.zone_text.specs.FirstEntry.{IsBrokenOff, IsOpen}
 use Rattle.zone_text.specs.Tokens.{Token, text, Cuts}
-use Rattle.zone_words.specs.declared.fault.WordsFault.{WordsFault}
+use Rattle.type_data.specs.declared.fault.WordsFault.{WordsFault}
 
 -- an entry of a further type that states no data: its line, the mnemonic of its type, the field by
 -- its name in the RFC, and what is wrong

@@ -10,32 +10,13 @@ use Rattle.zone_rdata.specs.Strings.{StandsInQuotes}
 use Rattle.zone_rdata.specs.Words.{IsClass, IsClassWord}
 use Rattle.zone_text.specs.Inherited.{IsTtl}
 use Rattle.zone_text.specs.Tokens.{IsToken, bare, text}
-use Rattle.zone_words.specs.Data.{StatesData, in_order}
-use Rattle.zone_words.specs.DataItem.{TouchingItem, items_of}
+use Rattle.type_data.specs.Data.{StatesData, in_order}
+use Rattle.type_data.specs.DataItem.{TouchingItem, items_of}
 use Rattle.zone_words.specs.Entry.{most_items}
-use Rattle.zone_words.specs.Parameters.Printed.{written_touching}
-use Rattle.zone_words.specs.Table.{Fields, FurtherType, fields_in}
+use Rattle.type_data.specs.Parameters.Printed.{written_touching}
+use Rattle.type_data.specs.StandingItem.{IsBareText, StandsBehind}
+use Rattle.type_data.specs.Table.{Fields, FurtherType, fields_in}
 use Rattle.zone_words.specs.Written.{generic_tokens}
-
--- a text that is one bare item
-pub record IsBareText (text : List ℕ) : Type 0 where
-  pub units : List Written
-  pub is : IsToken (bare units)
-  pub spelt : text ≡ written_text units
-
--- an item that stands on a line as it is
-abbrev pub Stands : RawItem → Type 0
-Stands (raw.bare text) = IsBareText text
-Stands (raw.quoted text) = StandsInQuotes text
-
-abbrev pub IsQuoted : RawItem → Type 0
-IsQuoted (raw.bare text) = ⊥
-IsQuoted (raw.quoted text) = ⊤
-
--- it stands so, and in quotes if it touches the item before it
-pub record StandsBehind (i : TouchingItem) : Type 0 where
-  pub stands : Stands i.item
-  pub parted : i.touches ≡ true → IsQuoted i.item
 
 -- Items that are the words of a type's data, and stand on a line as they are: they state the octets
 -- under every origin, and no entry with them has too many items.

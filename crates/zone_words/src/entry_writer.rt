@@ -4,12 +4,12 @@ ghost use Rattle.zone_rdata.specs.Item.{raw};
 ghost use Rattle.zone_words.specs.Machine.EntryWriting.{PushesEntry};
 ghost use Rattle.zone_words.specs.Inherited.{IsInherited};
 
-use crate::data_item::DataItem;
 use crate::entry_form::form_of;
 use crate::inherited::Inherited;
 use crate::refusal::Refusals;
 use crate::turn::{EntryData, turn_of};
 use std::alloc::{AllocError, Global};
+use type_data::DataItem;
 use zone_name::CasedName;
 use zone_rdata::Item;
 use zone_text::line_feeds;

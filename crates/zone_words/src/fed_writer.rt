@@ -14,9 +14,9 @@ ghost use Rattle.zone_words.specs.Machine.FedWriting.{
   line_reach,
 };
 
-use crate::data_item::DataItem;
 use crate::entry_writer::EntryWriter;
 use std::alloc::{AllocError, Global};
+use type_data::DataItem;
 use zone_name::CasedName;
 use zone_rdata::Item;
 use zone_text::{EntryState, FirstEntry, OpenEntry, entry_items, first_entry};

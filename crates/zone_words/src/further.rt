@@ -9,9 +9,8 @@ ghost use Rattle.zone_words.specs.Machine.Further.{FindsParts, IsForm, NoneIsFur
 ghost use Rattle.zone_words.specs.Refusal.{refused_of};
 
 use crate::entry_form::EntryForm;
-use crate::fault::WordsFault;
 use crate::refusal::Refusal;
-use crate::table::{FurtherType, further_type_of};
+use type_data::{FurtherType, WordsFault, further_type_of};
 use zone_rdata::{Item, is_word};
 use zone_text::{RecordParts, split_bare};
 

@@ -3,14 +3,14 @@
 ghost use Rattle.std.specs.Prelude.{◌≡◌, ◌≢◌, ◌<◌, ◌∷◌, ℕ, [], IfNone, IfOk, IfSome, List, OnOk, drop, false, filter, length, map, true};
 ghost use Rattle.zone_rdata.specs.Item.{raw};
 ghost use Rattle.zone_text.specs.Tokens.{Token, AreTokensOf, text};
-ghost use Rattle.zone_words.specs.DataItem.{given, items_of};
+ghost use Rattle.type_data.specs.DataItem.{given, items_of};
 ghost use Rattle.zone_words.specs.Entry.{touching_items};
 ghost use Rattle.zone_words.specs.Machine.KnownItems.{FollowsItem, FollowsItems, FrontIs, KeepsGap, PassesGap, StandsAround, from_item, is_between};
 ghost use Rattle.zone_words.specs.Machine.Walking.{BeginsBlank};
 ghost use Rattle.zone_words.specs.Written.{stays};
 
-use crate::data_item::DataItem;
 use std::alloc::AllocError;
+use type_data::DataItem;
 use zone_rdata::Item;
 use zone_text::{first_token, is_blank};
 

@@ -1,4 +1,4 @@
-//! Laws over the definitions alone: of rewritings, and of data in `data`.
+//! Laws over the definitions alone: of rewritings.
 ghost use Rattle.std.specs.Prelude.{◌≡◌, ℕ, List, []};
 ghost use Rattle.std.specs.List.{AllByRecursion};
 ghost use Rattle.zone_name.specs.Common.{AreOctets, Labels};
@@ -11,9 +11,7 @@ ghost use Rattle.zone_words.specs.Entry.{BecomesUnder, IsRewriting};
 ghost use Rattle.zone_words.specs.NoFurther.{HasNoFurtherWord};
 ghost use Rattle.zone_words.specs.Rewriting.{Outcome, Refused};
 
-pub mod data;
 pub mod joined;
-pub mod printed;
 pub mod words;
 
 /// Something becomes of every entry of octets after entries of octets, under an origin that is a

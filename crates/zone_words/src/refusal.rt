@@ -2,9 +2,9 @@
 ghost use Rattle.std.specs.Prelude.{◌≡◌, ◌+◌, ◌<◌, ◌≤◌, ◌^◌, [], None, option_map, option_to_list};
 ghost use Rattle.zone_words.specs.Refusal.{AddsTold, refused_of};
 
-use crate::fault::WordsFault;
 use std::error::Error;
 use std::fmt;
+use type_data::WordsFault;
 
 /// An entry of a further type that states no data.
 #[derive(Clone, Copy, Debug, PartialEq, Eq)]

@@ -8,16 +8,14 @@ ghost use Rattle.zone_words.specs.Machine.Further.{IsForm};
 ghost use Rattle.zone_words.specs.Machine.Turn.{AreInWords, StandsBeside, TakesRecordsTurn, TakesTurn, WritesTurn, refusal_in};
 ghost use Rattle.zone_words.specs.declared.turn.EntryData.{EntryData};
 
-use crate::data::{DataFailing, read_data};
-use crate::data_item::DataItem;
 use crate::entry_form::EntryForm;
-use crate::fault::WordsFault;
 use crate::further::{FurtherRecord, are_on_one_line, further_record};
 use crate::inherited::Inherited;
 use crate::known_items::{around_item, data_items};
 use crate::refusal::Refusal;
 use crate::writing::Around;
 use std::alloc::AllocError;
+use type_data::{DataFailing, DataItem, WordsFault, read_data};
 use zone_name::CasedName;
 use zone_rdata::{Item, is_generic};
 use zone_text::MOST_ITEMS;

@@ -10,8 +10,8 @@ use Rattle.zone_text.specs.Tokens.{ends_item, text}
 use Rattle.words_print.specs.Shown.{EndsWithData, HasTooManyItems, IsAtAWord, IsLineEnd, IsRecordInWords, StatesItsClass}
 use Rattle.words_print.specs.declared.generic_line.GenericLine.{GenericLine}
 use Rattle.words_print.specs.declared.line_printer.LinePrinter.{LinePrinter}
-use Rattle.zone_words.specs.Table.{FurtherType, further_of, further_type}
-use Rattle.zone_words.specs.WordsLine.{IsBareText}
+use Rattle.type_data.specs.Table.{FurtherType, further_of, further_type}
+use Rattle.type_data.specs.StandingItem.{IsBareText}
 use Rattle.zone_words.specs.Written.{generic_tokens}
 
 -- octets are these two, one after the other

@@ -5,12 +5,14 @@ use std::test::Fail;
 use test_support::{
     Question, check, check_lines, check_octets, check_same, check_table, push_words, roomy,
 };
-use zone_name::CasedName;
-use zone_text::{FirstEntry, first_entry};
-use zone_words::{
-    Refusals, Rewriter, Rewritten, WordsFailing, WordsFault, certificate_mnemonic, further_type_of,
-    rewrite_file, type_mnemonic,
+use type_data::{
+    DataFailing, DataItem, WordsFailing, WordsFault, certificate_mnemonic, further_type_of,
+    read_data, type_mnemonic,
 };
+use zone_name::CasedName;
+use zone_rdata::Item;
+use zone_text::{FirstEntry, first_entry};
+use zone_words::{Refusals, Rewriter, Rewritten, rewrite_file};
 
 /// What a file under the origin `Example.` becomes, with what is told after it. It is the same
 /// where the file is cut in two at any octet.
@@ -480,4 +482,42 @@ fn failings_of_words_are_shown(rt: HostRuntime) -> Result<(), Fail> {
         push_words(rt.alloc(), &mut shown, format_args!("{failing}\n"))?;
     }
     check_octets("the words", &shown, b"not a key\nout of memory\n")
+}
+
+/// An item without quotes, after a blank.
+fn bare(text: &'static [u8]) -> DataItem<'static> {
+    DataItem {
+        item: Item::Bare(text),
+        touches: false,
+    }
+}
+
+/// The DS record of RFC 4034 5.4, whose digest is two items, and without its last items.
+#[test]
+fn data_is_read(rt: HostRuntime) -> Result<(), Fail> {
+    let further = further_type_of(b"DS").ok_or("DS")?;
+    let digest: [&'static [u8]; 2] = [b"2BB183AF5F22588179A53B0A", b"98631FAD1A292118"];
+    let items = [
+        bare(b"60485"),
+        bare(b"5"),
+        bare(b"1"),
+        bare(digest[0]),
+        bare(digest[1]),
+    ];
+    let root = CasedName::root();
+    let mut octets = roomy(rt.alloc())?;
+    read_data(&further.fields, &items, &root, &mut octets).map_err(|_| "the record")?;
+    check_octets(
+        "DS",
+        &octets,
+        b"\xec\x45\x05\x01\x2b\xb1\x83\xaf\x5f\x22\x58\x81\x79\xa5\x3b\x0a\x98\x63\x1f\xad\x1a\x29\x21\x18",
+    )?;
+    match read_data(&further.fields, &items[..2], &root, &mut octets) {
+        Err(DataFailing::Fault { field, fault }) => {
+            check_octets("the field", field.as_bytes(), b"digest type")?;
+            check(fault == WordsFault::NothingLeft, "nothing is left")?;
+            check_octets("the data", &octets, b"")
+        }
+        _ => Err(Fail::from("two items are no DS record")),
+    }
 }

@@ -3,9 +3,10 @@
 use std::alloc::Global;
 use std::test::Fail;
 use test_support::{Question, check_lines, check_octets, check_table};
+use type_data::{further_type_of, print_data};
 use words_print::{WordsPrinter, print_line, print_words};
 use zone_name::CasedName;
-use zone_words::{further_type_of, print_data, rewrite_file};
+use zone_words::rewrite_file;
 
 /// The words that a record in the generic form is shown in, which are rewritten as that record.
 struct RecordInWords;

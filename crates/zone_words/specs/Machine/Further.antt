@@ -10,7 +10,7 @@ use Rattle.zone_text.specs.Stated.{directive_in}
 use Rattle.zone_text.specs.Statements.{Parts, Statement, no_items, parts_after, parts_in}
 use Rattle.zone_text.specs.declared.parts.RecordParts.{RecordParts}
 use Rattle.zone_words.specs.Entry.{IsFurtherRecord, most_items}
-use Rattle.zone_words.specs.Table.{FurtherType, IsFurtherWord, further_of}
+use Rattle.type_data.specs.Table.{FurtherType, IsFurtherWord, further_of}
 use Rattle.zone_words.specs.declared.entry_form.EntryForm.{EntryForm}
 use Rattle.zone_words.specs.declared.entry_form.EntryForm.TheVariants as forms
 use Rattle.zone_words.specs.declared.further.FurtherRecord.{FurtherRecord}

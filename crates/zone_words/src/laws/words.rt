@@ -10,10 +10,10 @@ ghost use Rattle.zone_text.specs.FirstEntry.{IsOneEntry};
 ghost use Rattle.zone_text.specs.Inherited.{class_word};
 ghost use Rattle.zone_text.specs.Statements.{statement_of};
 ghost use Rattle.zone_text.specs.Tokens.{Token};
-ghost use Rattle.zone_words.specs.DataItem.{TouchingItem};
+ghost use Rattle.type_data.specs.DataItem.{TouchingItem};
 ghost use Rattle.zone_words.specs.Entry.{IsRewriting};
-ghost use Rattle.zone_words.specs.PrintedData.{AreOfAType, PrintsData};
-ghost use Rattle.zone_words.specs.Table.{Fields, FurtherType, further_type};
+ghost use Rattle.type_data.specs.PrintedData.{AreOfAType, PrintsData};
+ghost use Rattle.type_data.specs.Table.{Fields, FurtherType, further_type};
 ghost use Rattle.zone_words.specs.WordsLine.{AreWords, IsHead, IsOwnerlessHead, generic_line, words_line};
 
 /// The line of a record with the words of its data is one entry, which states its

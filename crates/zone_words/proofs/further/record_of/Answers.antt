@@ -1,6 +1,6 @@
 use Rattle.zone_words.proofs.Common.{FurtherType, IsFurtherWord, ap, false, further_of, map, raw, subst, sym, true, ◌∙◌, ◌∷◌, ◌≡◌}
 use Rattle.zone_rdata.specs.Item.{bare}
-use Rattle.zone_words.proofs.FurtherWords.{further_word_once}
+use Rattle.type_data.proofs.FurtherWords.{further_word_once}
 use Rattle.zone_words.proofs.further.record_of.Goals as goal
 
 pub returns-then-not-is_internet-clause-none : goal.returns-then-not-is_internet-clause-none

@@ -1,7 +1,7 @@
 use Rattle.std.proofs.Common.{subst}
-use Rattle.zone_words.specs.Printed.{IfNoData}
-use Rattle.zone_words.specs.PrintedData.{AreOfAType, HasNoWords}
-use Rattle.zone_words.specs.Table.{of_code}
+use Rattle.type_data.specs.Printed.{IfNoData}
+use Rattle.type_data.specs.PrintedData.{AreOfAType, HasNoWords}
+use Rattle.type_data.specs.Table.{of_code}
 use Rattle.words_print.proofs.line_printer.LinePrinter.find_words.Goals as goal
 
 pub returns-in-Err-NoData-clause-no : goal.returns-in-Err-NoData-clause-no

@@ -1,7 +1,7 @@
 use Rattle.std.proofs.Common.{Ok, [], ap, refl, ◌++◌, ◌∙◌, ◌∷◌}
 use Rattle.words_print.proofs.Fitting.{fits_if_canonical, line_shown, line_stays}
 use Rattle.words_print.specs.Shown.{no_data, no_words}
-use Rattle.zone_words.specs.Table.{further_of}
+use Rattle.type_data.specs.Table.{further_of}
 use Rattle.words_print.proofs.line_printer.LinePrinter.shows.Goals as goal
 
 pub returns-then-not-branch-clause-no : goal.returns-then-not-branch-clause-no

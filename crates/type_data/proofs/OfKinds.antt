@@ -1,0 +1,23 @@
+-- What is proved of each kind of field.
+pub mod Address
+pub mod AfterLength
+pub mod Base64
+pub mod Bitmap
+pub mod Eui
+pub mod Gateway
+pub mod Hash
+pub mod Hexadecimal
+pub mod HostIdentity
+pub mod Joined
+pub mod Location
+pub mod Name
+pub mod NodeId
+pub mod Number
+pub mod Prefixes
+pub mod Salt
+pub mod Strings
+pub mod Tag
+pub mod Time
+pub mod Types
+pub mod Value
+pub mod Word

@@ -1,0 +1,3 @@
+-- What is proved of addresses.
+pub mod Printed
+pub mod Graphic

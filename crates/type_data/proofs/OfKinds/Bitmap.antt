@@ -1,0 +1,5 @@
+-- What is proved of type bitmaps.
+pub mod Bits
+pub mod Once
+pub mod Sorted
+pub mod Decided

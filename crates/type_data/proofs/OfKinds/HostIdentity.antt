@@ -1,0 +1,5 @@
+-- What is proved of host identities.
+pub mod Lengths
+pub mod Printed
+pub mod PrintedData
+pub mod ReadAgain

@@ -1,0 +1,4 @@
+-- What is proved of items whose texts are joined.
+pub mod Items
+pub mod Decided
+pub mod ReadAgain

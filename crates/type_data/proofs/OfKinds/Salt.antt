@@ -1,0 +1,5 @@
+-- What is proved of salts.
+pub mod Once
+pub mod Decided
+pub mod Graphic
+pub mod ReadAgain

@@ -1,0 +1,4 @@
+-- What is proved of tags.
+pub mod Printed
+pub mod Decided
+pub mod Graphic

@@ -1,0 +1,9 @@
+use Rattle.std.proofs.Common.{length}
+use Rattle.type_data.proofs.OfKinds.Hash.Printed.{HavePrinted}
+use Rattle.type_data.proofs.kinds.hash.print_base32_hex.Given as goal
+
+abbrev pub invariant-loop-rest : goal.invariant-loop-rest
+invariant-loop-rest l = HavePrinted l.octets l.rest l.fn.out.items l.out.items
+
+abbrev pub decreases-loop-rest : goal.decreases-loop-rest
+decreases-loop-rest l = length l.rest

@@ -1,0 +1,23 @@
+-- What the items of each kind of field state, a file each.
+pub mod Time
+pub mod Bitmap
+pub mod Tag
+pub mod Value
+pub mod Address
+pub mod Number
+pub mod Strings
+pub mod Word
+pub mod Base64
+pub mod Hexadecimal
+pub mod Joined
+pub mod Name
+pub mod Types
+pub mod AfterLength
+pub mod Hash
+pub mod Salt
+pub mod Eui
+pub mod NodeId
+pub mod Prefixes
+pub mod Location
+pub mod Gateway
+pub mod HostIdentity

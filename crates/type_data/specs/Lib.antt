@@ -1,0 +1,16 @@
+pub mod DataItem
+pub mod Fault
+pub mod Mnemonics
+pub mod FirstItem
+pub mod EachItem
+pub mod Kinds
+pub mod Field
+pub mod Table
+pub mod Data
+pub mod Parameters
+pub mod Printed
+pub mod PrintedData
+pub mod Machine
+pub mod FaultText
+pub mod Unescaped
+pub mod StandingItem

@@ -1,6 +1,0 @@
-use Rattle.zone_words.proofs.Common.{get_or, take, ◌++◌, ◌∷◌, ◌≡◌}
-use Rattle.zone_words.specs.Kinds.Eui.{eui_text}
-use Rattle.zone_words.proofs.kinds.eui.print_pairs.Given as goal
-
-abbrev pub invariant-loop-octet : goal.invariant-loop-octet
-invariant-loop-octet l = l.out.items ≡ l.fn.out.items ++ eui_text (get_or l.octets 0 0 ∷ take l.octet-index l.rest)

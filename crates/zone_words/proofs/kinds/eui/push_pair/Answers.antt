@@ -1,6 +1,0 @@
-use Rattle.zone_words.proofs.Common.{Ok, ap}
-use Rattle.zone_words.proofs.HexPairs.{pair_pushed}
-use Rattle.zone_words.proofs.kinds.eui.push_pair.Goals as goal
-
-pub returns-clause-states : goal.returns-clause-states
-returns-clause-states c = pair_pushed c.args.text.now c.args.out.now.items c.push_octets_of_hex.new.out.items c.if-text-ne2.false (c.in_ok-push_octets_of_hex.ensures.yes (ap Ok c.if-not-branch.false))

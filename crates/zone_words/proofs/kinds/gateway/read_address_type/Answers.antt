@@ -1,6 +1,0 @@
-use Rattle.zone_words.proofs.Common.{arith, found_passed}
-use Rattle.zone_words.proofs.Gateways.{capped_over}
-use Rattle.zone_words.proofs.kinds.gateway.read_address_type.Goals as goal
-
-pub returns-in_err-number-clause-fault : goal.returns-in_err-number-clause-fault
-returns-in_err-number-clause-fault c = found_passed c.from_residual.result c.in_err-number.field-0.0 _ c.from_residual.ensures.1 (capped_over c.args.text.now 3 c.decimal_of.result _ (omega arith) c.decimal_of.ensures.found c.decimal_of.ensures.none c.in_err-number.ensures.fault)

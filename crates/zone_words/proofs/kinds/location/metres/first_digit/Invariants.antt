@@ -1,8 +1,0 @@
-use Rattle.zone_words.proofs.Common.{◌-◌, ◌^◌, ◌≡◌, ◌≤◌, ◌⊎◌}
-use Rattle.zone_words.proofs.kinds.location.metres.first_digit.Given as goal
-
-abbrev pub invariant-loop-power : goal.invariant-loop-power
-invariant-loop-power l = record { few : l.power ≤ 9; first : (l.power ≡ 0) ⊎ (10 ^ l.power ≤ l.centimetres) }
-
-abbrev pub decreases-loop-power : goal.decreases-loop-power
-decreases-loop-power l = 9 - l.power

@@ -1,5 +1,0 @@
-use Rattle.zone_words.proofs.Common.{AllByRecursion, IsNoHalf, map, raw_item, take}
-use Rattle.zone_words.proofs.kinds.location.place.cut_at_half.Given as goal
-
-abbrev pub invariant-loop-at : goal.invariant-loop-at
-invariant-loop-at l = AllByRecursion (IsNoHalf l.axis) (map raw_item (take l.at l.items))

@@ -1,8 +1,0 @@
-use Rattle.zone_words.proofs.Common.{arith, length, nat_tests, ◌<◌}
-use Rattle.zone_words.proofs.Locations.{no_location}
-use Rattle.zone_words.proofs.kinds.location.read_location.Goals as goal
-
-pub returns-in_default-clause-fault : goal.returns-in_default-clause-fault
-returns-in_default-clause-fault c =
-    let some : 0 < length c.args.items.now = grind (arith, nat_tests, c.is_empty.ensures, c.if-is_empty.false) in
-    no_location c.args.items.now some c.in_default.ensures.none

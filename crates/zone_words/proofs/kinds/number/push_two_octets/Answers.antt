@@ -1,6 +1,0 @@
-use Rattle.zone_words.proofs.Common.{arith, found_passed, w16}
-use Rattle.zone_words.proofs.Numbers.{over_fails}
-use Rattle.zone_words.proofs.kinds.number.push_two_octets.Goals as goal
-
-pub returns-in_err-number-clause-fault : goal.returns-in_err-number-clause-fault
-returns-in_err-number-clause-fault c = found_passed c.from_residual.result c.in_err-number.field-0.0 _ c.from_residual.ensures.1 (over_fails w16 _ c.args.number _ (omega (arith, c.from.ensures)) c.in_err-number.ensures.fault)

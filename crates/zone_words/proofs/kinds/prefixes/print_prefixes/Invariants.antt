@@ -1,9 +1,0 @@
-use Rattle.std.proofs.Common.{length}
-use Rattle.zone_words.proofs.Printed.Prefixes.{HavePrintedPrefixes}
-use Rattle.zone_words.proofs.kinds.prefixes.print_prefixes.Given as goal
-
-abbrev pub invariant-loop-rest : goal.invariant-loop-rest
-invariant-loop-rest l = HavePrintedPrefixes l.octets l.rest l.fn.out.items l.out.items
-
-abbrev pub decreases-loop-rest : goal.decreases-loop-rest
-decreases-loop-rest l = length l.rest

@@ -1,6 +1,0 @@
-use Rattle.zone_words.proofs.Common.{drop, map, raw_item}
-use Rattle.zone_words.proofs.Prefixes.{LeadToPrefixes}
-use Rattle.zone_words.proofs.kinds.prefixes.read_prefixes.Given as goal
-
-abbrev pub invariant-loop-item : goal.invariant-loop-item
-invariant-loop-item l = LeadToPrefixes (map raw_item l.items) (map raw_item (drop l.item-index l.items)) l.fn.out.items l.out.items

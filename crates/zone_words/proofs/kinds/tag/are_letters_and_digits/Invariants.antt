@@ -1,6 +1,0 @@
-use Rattle.zone_words.proofs.Common.{AllByRecursion, take, true, ◌≡◌}
-use Rattle.zone_words.proofs.kinds.tag.are_letters_and_digits.Given as goal
-use Rattle.zone_words.specs.Kinds.Tag.{is_letter_or_digit}
-
-abbrev pub invariant-loop-octet : goal.invariant-loop-octet
-invariant-loop-octet l = AllByRecursion (λ c. is_letter_or_digit c ≡ true) (take l.octet-index l.text)

@@ -1,9 +1,0 @@
-use Rattle.std.proofs.Common.{rules}
-use Rattle.zone_words.proofs.Printed.Tags.{no_tag, tag_front}
-use Rattle.zone_words.proofs.kinds.tag.print_tag.Goals as goal
-
-pub returns-then-not-is_tag-clause-none : goal.returns-then-not-is_tag-clause-none
-returns-then-not-is_tag-clause-none c = no_tag c.args.octets.now c.in_ok-tag.rest.now c.in_ok-tag.tag.now c.in_ok-tag.ensures.whole (search (rules, c.is_tag.ensures, c.if-not-is_tag.true))
-
-pub returns-clause-printed : goal.returns-clause-printed
-returns-clause-printed c = tag_front c.args.octets.now c.in_ok-tag.rest.now c.args.out.now.items c.extend_from_slice.new.self.items c.in_ok-tag.tag.now c.in_ok-tag.ensures.whole (search (rules, c.is_tag.ensures, c.if-not-is_tag.false)) c.in_ok-extend_from_slice.ensures.items

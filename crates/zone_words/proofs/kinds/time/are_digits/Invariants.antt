@@ -1,6 +1,0 @@
-use Rattle.zone_words.proofs.Common.{AllByRecursion, take, true, ◌≡◌}
-use Rattle.zone_name.specs.Spelling.{is_digit}
-use Rattle.zone_words.proofs.kinds.time.are_digits.Given as goal
-
-abbrev pub invariant-loop-octet : goal.invariant-loop-octet
-invariant-loop-octet l = AllByRecursion (λ c. is_digit c ≡ true) (take l.octet-index l.text)

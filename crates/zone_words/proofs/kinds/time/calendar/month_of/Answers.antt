@@ -1,6 +1,0 @@
-use Rattle.zone_words.proofs.Common.{arith, ◌+◌, ◌-◌, ◌/◌}
-use Rattle.zone_words.proofs.Years.{months_most}
-use Rattle.zone_words.proofs.kinds.time.calendar.month_of.Goals as goal
-
-pub returns-else-month-lt12-clause-begun : goal.returns-else-month-lt12-clause-begun
-returns-else-month-lt12-clause-begun c = omega (arith, months_most c.args.year (c.args.day / 31 + 1 - 1))

@@ -1,5 +1,0 @@
-use Rattle.zone_words.proofs.Common.{AllZip, NamesType, map, raw_item, take}
-use Rattle.zone_words.proofs.kinds.types.numbers_of_types.Given as goal
-
-abbrev pub invariant-loop-item : goal.invariant-loop-item
-invariant-loop-item l = AllZip NamesType (map raw_item (take l.item-index l.items)) l.numbers.items

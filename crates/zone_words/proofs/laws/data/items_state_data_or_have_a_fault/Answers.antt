@@ -1,5 +1,0 @@
-use Rattle.zone_words.proofs.Decided.Fields.{data_decided}
-use Rattle.zone_words.proofs.laws.data.items_state_data_or_have_a_fault.Goals as goal
-
-pub returns : goal.returns
-returns c = data_decided

@@ -1,9 +1,0 @@
-use Rattle.zone_words.proofs.Common.{IsAddressOf, length}
-use Rattle.zone_words.proofs.OfParameters.Lists.{HasAddresses}
-use Rattle.zone_words.proofs.parameters.addresses.read_addresses.Given as goal
-
-abbrev pub invariant-loop-address : goal.invariant-loop-address
-invariant-loop-address l = HasAddresses (IsAddressOf l.version) l.text l.rest l.fn.out.items l.out.items
-
-abbrev pub decreases-loop-address : goal.decreases-loop-address
-decreases-loop-address l = length l.rest

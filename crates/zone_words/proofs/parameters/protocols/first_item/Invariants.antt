@@ -1,9 +1,0 @@
-use Rattle.zone_words.proofs.Common.{length}
-use Rattle.zone_words.proofs.OfParameters.Protocols.{HasItem}
-use Rattle.zone_words.proofs.parameters.protocols.first_item.Given as goal
-
-abbrev pub invariant-loop-octet : goal.invariant-loop-octet
-invariant-loop-octet l = HasItem l.text l.rest l.item.items
-
-abbrev pub decreases-loop-octet : goal.decreases-loop-octet
-decreases-loop-octet l = length l.rest
