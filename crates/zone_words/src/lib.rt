@@ -1,5 +1,6 @@
-//! Master files whose records of further types stand in words, written anew with the data of these
-//! records in the generic form (RFC 1035 5, RFC 3597 5).
+//! Master files rewritten: a record of a further type that has its RDATA in presentation format gets
+//! it in the generic form (RFC 1035 5, RFC 3597 5). All else stays as it is. `type_data` reads the
+//! RDATA.
 #![tactic(auto)]
 
 mod entry_form;
