@@ -35,11 +35,12 @@ name_short fault = grind arith
 text_short : (fault : Fault) → length (fault_row fault).text ≤ 512
 text_short fault = grind arith
 
-number_below : (fault : Fault) → (fault_row fault).number < 46
+-- at most three digits, with room for new rows
+number_below : (fault : Fault) → (fault_row fault).number < 1000
 number_below fault = grind arith
 
-number_short : (fault : Fault) → length (decimal (fault_row fault).number) ≤ 2
-number_short fault = length-decimal-le 2 (fault_row fault).number (omega arith) (omega (arith, number_below fault)) (omega (arith, number_below fault))
+number_short : (fault : Fault) → length (decimal (fault_row fault).number) ≤ 3
+number_short fault = length-decimal-le 3 (fault_row fault).number (omega arith) (omega (arith, number_below fault)) (omega (arith, number_below fault))
 
 pub line_short : (fault : Fault) (place : Place) → length (argument_of fault) ≤ 1022 → length (place_words place) ≤ 128 → length (refusal_line fault place) ≤ 2048
 line_short fault place argument at = grind (arith, length-append, name_short, text_short, number_short)

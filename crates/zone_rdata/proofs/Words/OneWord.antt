@@ -68,11 +68,15 @@ kind_or_fault word n fault x kind (beyond m y over) = let same : n ≡ m = kind_
 kind_or_fault word n fault x kind (for_queries m y short none) = none (subst IsKind (kind_word_once word n m x y) kind)
 
 pub kind_fault_once : (word : List ℕ) (f g : Fault) → IsWordFault word f → IsWordFault word g → f ≡ g
+kind_fault_once word _ _ (nameless nothing) (nameless nothing') = refl
+kind_fault_once word _ _ (nameless nothing) (beyond n x over) = refl
+kind_fault_once word _ _ (nameless nothing) (for_queries m y short none) = absurd (nothing m y)
+kind_fault_once word _ _ (beyond n x over) (nameless nothing) = refl
+kind_fault_once word _ _ (beyond n x over) (beyond m y over') = refl
+kind_fault_once word _ _ (beyond n x over) (for_queries m y short none) = absurd (omega (arith, kind_word_once word m n y x))
 kind_fault_once word _ _ (for_queries m y short none) (nameless nothing) = absurd (nothing m y)
 kind_fault_once word _ _ (for_queries m y short none) (beyond n x over) = absurd (omega (arith, kind_word_once word m n y x))
-kind_fault_once word _ _ (nameless nothing) (for_queries m y short none) = absurd (nothing m y)
-kind_fault_once word _ _ (beyond n x over) (for_queries m y short none) = absurd (omega (arith, kind_word_once word m n y x))
-kind_fault_once word _ _ _ _ = refl
+kind_fault_once word _ _ (for_queries m y short none) (for_queries n x short' none') = refl
 
 -- ---- of one or of none
 
