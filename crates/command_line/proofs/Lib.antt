@@ -1,4 +1,4 @@
 pub mod Adding
 pub mod Asked
-pub mod Flags
+pub mod Rows
 pub mod Telling

@@ -1,10 +1,11 @@
 -- What the words of a command line call, by `clap` (this project's own).
-use Rattle.std.specs.Prelude.{◌≡◌, ◌≢◌, ◌++◌, ◌∷◌, Bool, true, if◌then◌else◌, List, [], map, codes, string_bytes, Option, Some}
-use Rattle.std.specs.List.{AllByRecursion}
-use Rattle.clap.specs.Words.{App, Row, Rule, Text, new_rule, new_app, subcommand_of, first_of, fault_of, is_simple_and_free}
+use Rattle.std.specs.Prelude.{◌≡◌, ◌≢◌, ◌++◌, ◌∷◌, ◌⊎◌, Bool, true, if◌then◌else◌, List, [], map, codes, string_bytes, Option, Some, IsSome}
+use Rattle.clap.specs.Words.{App, Row, Rule, Text, new_rule, new_app, subcommand_of, first_of, fault_of}
 use Rattle.clap.specs.Walk.{is_empty}
 use Rattle.clap.specs.declared.builder.action.ArgAction.TheVariants.{SetTrue}
 use Rattle.zone_name.specs.Common.{NothingIs}
+use Rattle.command_line.specs.declared.program.ArgumentKind.{ArgumentKind}
+use Rattle.command_line.specs.declared.program.ArgumentKind.TheVariants.{Word, Flag, Value}
 use Rattle.command_line.specs.declared.no_call.NoCall.{NoCall}
 use Rattle.command_line.specs.declared.no_call.NoCall.TheVariants.{Told, Memory}
 
@@ -16,6 +17,10 @@ argument id = record (new_rule id) { required = true }
 abbrev pub flag : Text → Rule
 flag id = record (new_rule id) { long = Some id; action = Some SetTrue }
 
+-- an option, two hyphens, its name and a value, which may be given
+abbrev pub option : Text → Rule
+option id = record (new_rule id) { long = Some id }
+
 -- the text that stands for a flag that was given, and for one that wasn't
 abbrev pub flag_text : Bool → Text
 flag_text given = if given then codes "true" else codes "false"
@@ -24,10 +29,6 @@ flag_text given = if given then codes "true" else codes "false"
 abbrev pub command_with : Text → List Rule → App
 command_with word rules = let app = new_app word in
     record app { top = record app.top { rules = rules } }
-
--- a command of arguments alone
-abbrev pub command_app : Text → List Text → App
-command_app word ids = command_with word (map argument ids)
 
 -- a program with its commands, as `clap` sees it. It is handed the words after its name, and has a
 -- version to tell.
@@ -41,31 +42,67 @@ program_of name commands = record {
   subs = map (λ (command : App). command.top) commands;
 }
 
--- a program with its commands, and what can be called by them
-pub record Commands : Type 1 where
+-- an argument of this name that is given so
+abbrev pub rule_for : ArgumentKind → Text → Rule
+rule_for Word id = argument id
+rule_for Flag id = flag id
+rule_for Value id = option id
+
+-- a command of a program: its word, and the names of its arguments with how each is given
+pub record CommandRow : Type 0 where
+  pub word : Text
+  pub arguments : List (Text × ArgumentKind)
+
+-- a program's commands, and the program as `clap` sees it
+pub record Commands : Type 0 where
+  pub rows : List CommandRow
   pub app : App
-  -- a command with the texts of its arguments, in their order
-  pub Call : Type 0
-  -- its word
-  pub command_of : Call → Text
-  -- its arguments, each with its text
-  pub arguments_of : Call → List (Text × Text)
-  -- of such commands `clap` says all that it states
-  pub simple : is_simple_and_free app ≡ true
 
--- the subcommand that was found is this one, with these texts
-pub record Finds (commands : Commands) (found : Option (Text × List Row))
-    (call : commands.Call) : Type 0 where
-  pub rows : List Row
-  pub entered : found ≡ Some (commands.command_of call, rows)
-  pub texts : AllByRecursion
-      (λ (argument : Text × Text). first_of argument.0 rows ≡ Some argument.1)
-      (commands.arguments_of call)
+abbrev pub commands_of : Text → List CommandRow → Commands
+commands_of name rows = record {
+  rows = rows;
+  app =
+      program_of name
+      (map
+      (λ (row : CommandRow). command_with row.word
+      (map (λ (argument : Text × ArgumentKind). rule_for argument.1 argument.0) row.arguments))
+      rows);
+}
 
--- `clap` finds no fault in the words, and states this subcommand with these texts for its arguments
-pub record Calls (commands : Commands) (words : List Text) (call : commands.Call) : Type 0 where
+-- ---- what words call
+
+-- a command with what was found for its arguments
+abbrev pub Called : Type 0
+Called = Text × List Row
+
+-- what was found for the argument of this name
+abbrev pub text_of : Called → Text → Option Text
+text_of call id = first_of id call.1
+
+-- an argument of this kind is given: a word has a text, a flag one of its two
+abbrev pub IsGiven : ArgumentKind → Option Text → Type 0
+IsGiven Word text = IsSome text
+IsGiven Flag text = (given : Bool) × (text ≡ Some (flag_text given))
+IsGiven Value text = Unit {0}
+
+abbrev pub HasAll : List (Text × ArgumentKind) → Called → Type 0
+HasAll [] call = Unit {0}
+HasAll (argument ∷ arguments) call =
+    IsGiven argument.1 (text_of call argument.0) × HasAll arguments call
+
+-- the call is of this command, and has all its arguments
+abbrev pub IsOf : CommandRow → Called → Type 0
+IsOf row call = (row.word ≡ call.0) × HasAll row.arguments call
+
+abbrev pub IsOneOf : List CommandRow → Called → Type 0
+IsOneOf [] call = ⊥
+IsOneOf (row ∷ rows) call = IsOf row call ⊎ IsOneOf rows call
+
+-- `clap` finds no fault in the words, and states this command with these texts for its arguments
+pub record Calls (commands : Commands) (words : List Text) (call : Called) : Type 0 where
   pub faultless : fault_of commands.app words ≡ []
-  pub finds : Finds commands (subcommand_of commands.app words) call
+  pub stated : subcommand_of commands.app words ≡ Some call
+  pub whole : IsOneOf commands.rows call
 
 -- a text that is told has no line feed at its end
 abbrev pub HasNoFinalLineFeed : Text → Type 0

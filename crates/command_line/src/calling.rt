@@ -1,55 +1,37 @@
 //! The call that words are.
-ghost use Rattle.std.specs.Prelude.{◌≡◌, ◌≢◌, ◌↔◌, ◌⊎◌, drop, map, IfErr, IfOk, IfSome, IsErr, IsNone, string_bytes};
-ghost use Rattle.clap.specs.Words.{subcommand_rows_of};
+ghost use Rattle.std.specs.Prelude.{◌≡◌, ◌≢◌, ◌↔◌, ◌⊎◌, drop, map, true, IfErr, IfOk, IsErr, string_bytes};
+ghost use Rattle.clap.specs.Words.{is_simple_and_free};
 ghost use Rattle.clap.specs.declared.error.kind.ErrorKind.TheVariants.{OutOfMemory};
-ghost use Rattle.zone_name.specs.Common.{NothingIs};
-ghost use Rattle.command_line.specs.Calls.{Calls, Commands, Finds, IsNoCall};
-ghost use Rattle.command_line.specs.Program.{app_described};
+ghost use Rattle.command_line.specs.Calls.{Calls, IsNoCall};
+ghost use Rattle.command_line.specs.Program.{described};
 ghost use Rattle.command_line.specs.Machine.Telling.{EndsWell, IsWithoutLineFeeds, Tells};
 
+use crate::call::Call;
 use crate::no_call::NoCall;
 use crate::program::Program;
 use crate::reading::readable;
-use clap::ArgMatches;
 use clap::error::ErrorKind;
 use std::alloc::{AllocError, Global};
 
-/// A call of a program: one of its commands with the texts of its arguments.
-pub trait FromMatches<'w> {
-    /// The commands of the program.
-    ghost commands: { Commands };
-
-    /// The call that it is.
-    ghost stated: { Self → commands.Call };
-
-    /// The program.
-    fn program() -> &'static Program
-        ensures { app_described result.now ≡ commands.app };
-
-    /// The command that was matched, with the texts of its arguments.
-    fn from_matches(matches: &ArgMatches<'w>) -> Option<Self>
-        ensures found { IfSome result (λ call.
-            Finds commands (subcommand_rows_of matches.now) (stated call)) }
-        ensures none { IsNone result
-            → NothingIs (Finds commands (subcommand_rows_of matches.now)) };
-}
-
-/// The call that the words after a program's name are.
+/// The command that the words after a program's name call.
 ///
 /// # Errors
 ///
 /// `Told` where `clap` gives no matches for one of the commands, help included; `Memory`.
-pub fn call_of<'w, C: FromMatches<'w>>(alloc: Global, words: &'w [String]) -> Result<C, NoCall>
-    ensures called { IfOk result (λ call.
-        Calls C.commands (map string_bytes words.now) (C.stated call)) }
-    ensures refused { IfErr result (IsNoCall C.commands (map string_bytes words.now)) }
+pub fn call_of<'w>(
+    alloc: Global,
+    program: &Program,
+    words: &'w [String],
+) -> Result<Call<'w>, NoCall>
+    requires { is_simple_and_free (described program.now).app ≡ true }
+    ensures called { IfOk result (Calls (described program.now) (map string_bytes words.now)) }
+    ensures refused { IfErr result (IsNoCall (described program.now) (map string_bytes words.now)) }
 {
-    let program = C::program();
     let matches = match readable(alloc, program)?.try_get_matches_from(words) {
         Ok(matches) => matches,
         Err(error) => return Err(refusal(error.kind(), error.to_string(alloc))),
     };
-    match C::from_matches(&matches) {
+    match Call::found(matches, program.commands) {
         Some(call) => Ok(call),
         None => Err(told(help(alloc, program))),
     }

@@ -1,16 +1,16 @@
 //! What the words of a command line call, by `clap`: a program's commands as a table, and a call of
-//! one of them with the texts of its arguments, or what a user is told in its place.
+//! one of them with what was found for its arguments, or what a user is told in its place.
 #![tactic(auto)]
 
+mod call;
 mod calling;
-mod flag;
 mod given;
 mod no_call;
 mod program;
 mod reading;
 
-pub use calling::{FromMatches, after_name, call_of};
-pub use flag::flag_of;
+pub use call::Call;
+pub use calling::{after_name, call_of};
 pub use given::given_words;
 pub use no_call::NoCall;
 pub use program::{Argument, ArgumentKind, Program, ProgramCommand};

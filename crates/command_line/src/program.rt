@@ -33,8 +33,8 @@ pub struct ProgramCommand {
 /// An argument of a command.
 #[derive(Clone, Copy, Debug)]
 pub struct Argument {
-    /// What stands for it in a usage, by which its text is found; of a flag what follows its two
-    /// hyphens.
+    /// What stands for it in a usage, by which its text is found; of a flag or an option what
+    /// follows its two hyphens.
     pub id: &'static str,
     /// What it is.
     pub help: &'static str,
@@ -49,4 +49,6 @@ pub enum ArgumentKind {
     Word,
     /// As a flag, two hyphens and its name, or not at all. Its text is then `true` or `false`.
     Flag,
+    /// As an option, two hyphens, its name and a word, or not at all.
+    Value,
 }

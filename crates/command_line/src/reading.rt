@@ -68,5 +68,6 @@ fn readable_argument<'a>(alloc: Global, argument: &Argument) -> Arg<'a>
     match argument.kind {
         ArgumentKind::Word => readable.required(true),
         ArgumentKind::Flag => readable.long(argument.id).action(ArgAction::SetTrue),
+        ArgumentKind::Value => readable.long(argument.id),
     }
 }

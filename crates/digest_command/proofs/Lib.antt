@@ -1,4 +1,3 @@
-mod Asked
 mod Findings
 mod Answering
 mod Statuses

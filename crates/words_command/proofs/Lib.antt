@@ -1,5 +1,4 @@
 pub mod Common
-pub mod Asked
 pub mod Halting
 pub mod LastLines
 pub mod Feeding

@@ -1,12 +1,10 @@
-ghost use Rattle.std.specs.Prelude.{◌≡◌, drop, map, IfOk, IfErr, string_bytes};
+ghost use Rattle.std.specs.Prelude.{drop, map, IfOk, IfErr, string_bytes};
 ghost use Rattle.command_input.specs.Origin.{IsOfOrigin};
-ghost use Rattle.words_command.specs.Machine.Calling.{texts_of, IsOfCall};
-ghost use Rattle.words_command.specs.Order.{Asks, IsOriginText, Orders, IsLineFault};
+ghost use Rattle.words_command.specs.Order.{IsLineFault, IsOriginText, Orders};
 
 use crate::command::PROGRAM;
-use clap::ArgMatches;
 use command_input::LineFault;
-use command_line::{FromMatches, Program, after_name, call_of};
+use command_line::{after_name, call_of};
 use std::alloc::Global;
 use zone_name::CasedName;
 
@@ -31,7 +29,12 @@ pub fn order_of(alloc: Global, words: &[String]) -> Result<Order, LineFault>
     ensures ordered { IfOk result (Orders (map string_bytes words.now)) }
     ensures refused { IfErr result (IsLineFault (map string_bytes words.now)) }
 {
-    call_of::<Call>(alloc, words)?.order()
+    let call = call_of(alloc, &PROGRAM, words)?;
+    match call.command() {
+        "generic" => Ok(Order::Generic(origin_of(call.text("ORIGIN"))?)),
+        "words" => Ok(Order::Words),
+        _ => unreachable!(),
+    }
 }
 
 /// The order of the program's words, of which the first is its name.
@@ -45,54 +48,6 @@ pub fn order_after_name(alloc: Global, words: &[String]) -> Result<Order, LineFa
     ensures refused { IfErr result (IsLineFault (drop 1 (map string_bytes words.now))) }
 {
     order_of(alloc, after_name(words))
-}
-
-/// A command with the texts of its arguments.
-#[derive(Clone, Copy)]
-enum Call<'w> {
-    Generic(&'w str),
-    Words,
-}
-
-impl<'w> FromMatches<'w> for Call<'w> {
-    ghost use Rattle.command_line.specs.Program.{app_described};
-    ghost use Rattle.words_command.specs.Order.{commands};
-
-    ghost commands = { commands };
-
-    ghost stated = { texts_of };
-
-    fn program() -> &'static Program
-        ensures { app_described result.now ≡ commands.app }
-    {
-        &PROGRAM
-    }
-
-    fn from_matches(matches: &ArgMatches<'w>) -> Option<Call<'w>> {
-        let (command, found) = matches.subcommand()?;
-        match command {
-            "generic" => Some(Call::Generic(found.get_str("ORIGIN")?)),
-            "words" => Some(Call::Words),
-            _ => None,
-        }
-    }
-}
-
-impl Call<'_> {
-    /// What it asks for.
-    ///
-    /// # Errors
-    ///
-    /// `BadOrigin`.
-    fn order(self) -> Result<Order, LineFault>
-        ensures ordered { IfOk result (Asks (texts_of self.entry)) }
-        ensures refused { IfErr result (IsOfCall (texts_of self.entry)) }
-    {
-        match self {
-            Call::Generic(origin) => Ok(Order::Generic(origin_of(origin)?)),
-            Call::Words => Ok(Order::Words),
-        }
-    }
 }
 
 /// The origin that a text gives, with its letters as they stand.

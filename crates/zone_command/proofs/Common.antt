@@ -1,6 +1,5 @@
 -- What most proofs of this crate name, from below it and from its definitions.
-pub use Rattle.clap.specs.Words.{Row, Text, first_of, found_of, rows_of}
-pub use Rattle.command_line.specs.Calls.{Calls}
+pub use Rattle.clap.specs.Words.{Text}
 pub use Rattle.std.proofs.Common.{Bool, Global, List, [], ap, ap₂, arith, codes, false, length, map, nat_eq, refl, rules, subst, sym, true, ℕ, ◌++◌, ◌-◌, ◌∙◌, ◌≡◌, ◌⊎◌}
 pub use Rattle.std.proofs.KnownBytes.{Keeps-refl}
 pub use Rattle.std.specs.Cmp.Lexicographic.{bytes_decides, pointwise}
@@ -18,7 +17,7 @@ pub use Rattle.zone_engine.specs.Compare.{Compares, StopsCompare}
 pub use Rattle.zone_engine.specs.Input.{Input}
 pub use Rattle.zone_command.specs.Machine.Telling.{TellsVerdict, told, untold}
 pub use Rattle.zone_engine.specs.Normalise.{Normalises, StopsNormalise}
-pub use Rattle.zone_command.specs.Order.{Asks, Call, IsLineFault, Orders, arguments_of, command_of, commands}
+pub use Rattle.zone_command.specs.Order.{IsLineFault}
 pub use Rattle.zone_command.specs.Run.{AreCompared, Devices, IsStopped, Runs}
 pub use Rattle.zone_engine.specs.Reading.{ReadsToEnd, ReadsWhole, StopsReading, TellsRead}
 pub use Rattle.zone_engine.specs.Telling.{TellsLine, WritesPartOfLine, stop_line, stop_status, verdict_line, which_words}

@@ -1,11 +1,9 @@
-ghost use Rattle.std.specs.Prelude.{◌≡◌, drop, map, IfOk, IfErr, string_bytes};
-ghost use Rattle.zone_command.specs.Machine.Calling.{texts_of, IsOfCall};
-ghost use Rattle.zone_command.specs.Order.{Asks, IsSource, Orders, IsLineFault};
+ghost use Rattle.std.specs.Prelude.{drop, map, IfOk, IfErr, string_bytes};
+ghost use Rattle.zone_command.specs.Order.{IsLineFault, Orders};
 
 use crate::command::PROGRAM;
-use clap::ArgMatches;
 use command_input::{LineFault, origin_of};
-use command_line::{FromMatches, Program, after_name, call_of};
+use command_line::{after_name, call_of};
 use std::alloc::Global;
 use zone_name::Name;
 
@@ -39,7 +37,26 @@ pub fn order_of(alloc: Global, words: &[String]) -> Result<Order, LineFault>
     ensures ordered { IfOk result (Orders (map string_bytes words.now)) }
     ensures refused { IfErr result (IsLineFault (map string_bytes words.now)) }
 {
-    call_of::<Call>(alloc, words)?.order(alloc)
+    let call = call_of(alloc, &PROGRAM, words)?;
+    match call.command() {
+        "normalise" => Ok(Order::Normalise(origin_of(call.text("ORIGIN"))?)),
+        "explain" => Ok(Order::Explain(origin_of(call.text("ORIGIN"))?)),
+        "compare" => {
+            let first = origin_of(call.text("ORIGIN1"))?;
+            let second = origin_of(call.text("ORIGIN2"))?;
+            Ok(Order::Compare(
+                Source {
+                    origin: first,
+                    path: String::from_str(alloc, call.text("PATH1"))?,
+                },
+                Source {
+                    origin: second,
+                    path: String::from_str(alloc, call.text("PATH2"))?,
+                },
+            ))
+        }
+        _ => unreachable!(),
+    }
 }
 
 /// The order of the program's words, of which the first is its name.
@@ -53,83 +70,4 @@ pub fn order_after_name(alloc: Global, words: &[String]) -> Result<Order, LineFa
     ensures refused { IfErr result (IsLineFault (drop 1 (map string_bytes words.now))) }
 {
     order_of(alloc, after_name(words))
-}
-
-/// A command with the texts of its arguments.
-#[derive(Clone, Copy)]
-enum Call<'w> {
-    Normalise(&'w str),
-    Explain(&'w str),
-    Compare(SourceText<'w>, SourceText<'w>),
-}
-
-/// The texts of one input of a comparison.
-#[derive(Clone, Copy)]
-struct SourceText<'w> {
-    origin: &'w str,
-    path: &'w str,
-}
-
-impl<'w> FromMatches<'w> for Call<'w> {
-    ghost use Rattle.command_line.specs.Program.{app_described};
-    ghost use Rattle.zone_command.specs.Order.{commands};
-
-    ghost commands = { commands };
-
-    ghost stated = { texts_of };
-
-    fn program() -> &'static Program
-        ensures { app_described result.now ≡ commands.app }
-    {
-        &PROGRAM
-    }
-
-    fn from_matches(matches: &ArgMatches<'w>) -> Option<Call<'w>> {
-        let (command, found) = matches.subcommand()?;
-        match command {
-            "normalise" => Some(Call::Normalise(found.get_str("ORIGIN")?)),
-            "explain" => Some(Call::Explain(found.get_str("ORIGIN")?)),
-            "compare" => {
-                let first = SourceText {
-                    origin: found.get_str("ORIGIN1")?,
-                    path: found.get_str("PATH1")?,
-                };
-                let second = SourceText {
-                    origin: found.get_str("ORIGIN2")?,
-                    path: found.get_str("PATH2")?,
-                };
-                Some(Call::Compare(first, second))
-            }
-            _ => None,
-        }
-    }
-}
-
-impl Call<'_> {
-    /// What it asks for.
-    ///
-    /// # Errors
-    ///
-    /// `BadOrigin`, and `Memory`, which only paths take.
-    fn order(self, alloc: Global) -> Result<Order, LineFault>
-        ensures ordered { IfOk result (Asks (texts_of self.entry)) }
-        ensures refused { IfErr result (IsOfCall (texts_of self.entry)) }
-    {
-        match self {
-            Call::Normalise(origin) => Ok(Order::Normalise(origin_of(origin)?)),
-            Call::Explain(origin) => Ok(Order::Explain(origin_of(origin)?)),
-            Call::Compare(first, second) => {
-                let origins = (origin_of(first.origin)?, origin_of(second.origin)?);
-                let first = Source {
-                    origin: origins.0,
-                    path: String::from_str(alloc, first.path)?,
-                };
-                let second = Source {
-                    origin: origins.1,
-                    path: String::from_str(alloc, second.path)?,
-                };
-                Ok(Order::Compare(first, second))
-            }
-        }
-    }
 }
