@@ -98,6 +98,15 @@ fn text_fits_within(zone: &Zone, limit: u64) -> bool
     spare.left > 0
 }
 
+/// How many octets the canonical text is likely to have, at most a limit: a line of text has some
+/// three halves of the octets of its record in a message.
+fn likely_len(zone: &Zone, limit: u64) -> u64
+    ensures { result ≤ limit }
+{
+    let octets = zone.message_len();
+    octets.saturating_add(octets / 2).min(limit)
+}
+
 /// [`push_zone`] under a limit of the caller's.
 ///
 /// # Errors
@@ -110,11 +119,10 @@ pub fn push_zone_within(alloc: Global, zone: &Zone, limit: u64) -> Result<Vec<u8
     ensures short { OnOk result (length (canon zone.now) ≤ limit) }
     ensures stopped { IfErr result (StopsPush limit (canon zone.now)) }
 {
-    let text_len = len_within(zone, limit);
-    if text_len > limit {
+    if !text_fits_within(zone, limit) {
         return Err(Stop::Refused(Fault::ZoneTooLarge, Place::Whole));
     }
-    let mut text = LineBuffer::with_capacity(alloc, text_len as usize)?;
+    let mut text = LineBuffer::with_capacity(alloc, likely_len(zone, limit) as usize)?;
     for rr in zone.records() {
         text.push_record(rr)?;
     }

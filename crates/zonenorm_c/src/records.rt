@@ -35,7 +35,7 @@ fn push_octets(rr: &RrRef<'_>, octets: &mut Vec<u8>) -> Result<(), AllocError>
 fn octets_of(alloc: Global, zone: &Zone) -> Result<Vec<u8>, AllocError>
     ensures { IfOk result (λ octets. octets.items ≡ flat_map record_octets zone.now.records) }
 {
-    let mut octets = Vec::new(alloc);
+    let mut octets = Vec::with_capacity(alloc, zone.message_len() as usize)?;
     for rr in zone.records() {
         push_octets(&rr, &mut octets)?;
     }
