@@ -8,3 +8,4 @@ pub mod Headline
 pub mod Feeding
 pub mod Lines
 pub mod InMemory
+pub mod FileLoads

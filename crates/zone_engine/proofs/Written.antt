@@ -3,7 +3,7 @@ use Rattle.zone_engine.proofs.Common.{common_steps, ◌≡◌, ℕ, ◌<◌, ◌
 use Rattle.zone_engine.proofs.Reading.Readers.{if_refused}
 use Rattle.zone_engine.proofs.Feeding.{is_input}
 
-abbrev ReadIsStated : Type 0
+abbrev pub ReadIsStated : Type 0
 ReadIsStated = (input : Input) (placed : List Placed) → IsInput input → InputReads input placed None → InputStates input placed
 
 -- an input within a limit that is no greater than the limit of canonical texts

@@ -8,4 +8,5 @@ pub mod Examples
 pub mod Compare
 pub mod Telling
 pub mod Explain
+pub mod FileLoader
 pub mod Machine

@@ -143,7 +143,7 @@ pub fn compare_bytes(
 
 /// The verdict on the canonical texts of two zones. Each line is that of a record, and lines are
 /// equal exactly if the records are, so records are compared.
-fn first_difference(zone: &Zone, other: &Zone) -> Verdict
+pub fn first_difference(zone: &Zone, other: &Zone) -> Verdict
     requires { length (canon zone.now) ≤ text_limit }
     ensures { IsVerdictOnTexts result (canon zone.now) (canon other.now) }
 {

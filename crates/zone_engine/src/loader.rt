@@ -1,4 +1,4 @@
-ghost use Rattle.std.specs.Prelude.{◌≡◌, ◌+◌, ◌^◌, ◌<◌, ◌≤◌, ◌++◌, false, [], None, Err, length, IfOk, IfErr, IfSome, IsOk, OnOk};
+ghost use Rattle.std.specs.Prelude.{◌≡◌, ◌+◌, ◌^◌, ◌<◌, ◌≤◌, ◌++◌, false, [], Some, None, Err, is_some, length, IfOk, IfErr, IfSome, IsOk, OnOk};
 ghost use Rattle.zone_name.specs.Common.{Octets, AreOctets};
 ghost use Rattle.zone_rdata.specs.declared.fault.Stop.TheVariants.{Memory};
 ghost use Rattle.zone_engine.specs.Machine.Input.{IsForm, ReadAs, input_of};
@@ -34,6 +34,21 @@ impl ZoneLoader {
             list: ZoneList::new(alloc),
             refusal: None,
         }
+    }
+
+    /// Whether the input is refused already.
+    pub(crate) fn is_refused(&self) -> bool
+        ensures { result ≡ is_some self.now.refusal }
+    {
+        self.refusal.is_some()
+    }
+
+    /// Refuses the input, and keeps none of its records.
+    pub(crate) fn refuse(&mut self, fault: Fault, place: Place)
+        ensures { self.new.refusal ≡ Some (fault, place) }
+    {
+        self.list = ZoneList::new(self.alloc);
+        self.refusal = Some((fault, place));
     }
 
     /// Feeds a piece to the source, and takes the records that it decides. After a refusal it does
