@@ -109,7 +109,8 @@ class Differences(InFolder):
 
     def test_quiet(self) -> None:
         self.assertEqual(self.diff(HEAD, HEAD, "-q"), Ran(0, "", ""))
-        self.assertEqual(self.diff(HEAD, HEAD, "-q", "--json"), Ran(0, "", ""))
+        for words in (["diff", "a", "b", "--json"], ["sum", "a"], ["sum", "a", "--json"], ["normalise", "a"], ["normalise", "--json", "a"]):
+            self.assertEqual(ran(*words, "-q"), Ran(0, "", ""))
         self.assertEqual(self.diff(HEAD, HEAD + "w A 192.0.2.1\n", "-q").status, 1)
 
     def test_zonemd(self) -> None:

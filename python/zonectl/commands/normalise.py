@@ -2,6 +2,7 @@
 from __future__ import annotations
 
 import argparse
+import json
 import os
 from collections.abc import Callable
 from typing import Any
@@ -42,17 +43,16 @@ def run(given: argparse.Namespace, output: Output) -> int:
         raise Usage("it takes one SOURCE; --output-dir and --archive take several")
     if len(sources) > 1 and given.origin:
         raise Usage("--origin goes with one zone")
-    if sum(map(bool, (given.output_dir, given.archive, given.output, given.textconv, given.json))) > 1:
-        raise Usage("--output-dir, --archive, --output, --textconv and --json don't go together")
+    if sum(map(bool, (given.output_dir, given.archive, given.output or given.json, given.textconv))) > 1:
+        raise Usage("--output-dir, --archive and --textconv go neither together nor with --output or --json")
     reader = reader_of(given, output)
     if given.textconv:
         return textconv(sources[0], reader, output)
     if not is_many:
         copy = reader.copy(sources[0])
-        if given.json:
-            output.json(object_of(copy, given.fold))
-        elif given.output or not given.quiet:
-            output.result(text_of(copy, given), given.output)
+        if given.output or not given.quiet:
+            shown = f"{json.dumps(object_of(copy, given.fold))}\n".encode() if given.json else text_of(copy, given)
+            output.result(shown, given.output)
         return Status.SAME
     seen: set[str] = set()
     return many(sources, reader, output, lambda copy: written(copy, given, output, seen))

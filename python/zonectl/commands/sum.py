@@ -76,12 +76,7 @@ def run(given: argparse.Namespace, output: Output) -> int:
             worst = max(worst, it.status)
         else:
             found.append(it)
-    if given.json:
-        sums = [{**object_of(it), "records": copy.records} for copy, it in found]
-        output.json({"format": "zonectl-sum/1", "status": int(worst), "sums": sums}, given.output)
-    elif given.output or not (given.quiet and not worst):
-        output.result("".join(f"{it}\n" for _, it in found), given.output)
-    return worst
+    return written([object_of(it, copy) for copy, it in found], [f"{it}\n" for _, it in found], worst, given, output)
 
 
 def summed(source: Source, reader: Reader, is_folded: bool) -> tuple[Copy, Sum] | Failure:
@@ -93,9 +88,21 @@ def summed(source: Source, reader: Reader, is_folded: bool) -> tuple[Copy, Sum] 
         return failure
 
 
-def object_of(it: Sum) -> dict[str, Any]:
+def object_of(it: Sum, copy: Copy, **more: str) -> dict[str, Any]:
     """Returns a digest as an object."""
-    return {"source": it.source, "zone": it.zone, "serial": it.serial, "records": None, "canonical": it.canonical, "sha256": it.sha256}
+    return {"source": it.source, "zone": it.zone, "serial": it.serial, "records": copy.records, "canonical": it.canonical,
+            "sha256": it.sha256, **more}
+
+
+def written(sums: list[dict[str, Any]], lines: list[str], status: int, given: argparse.Namespace, output: Output) -> int:
+    """Writes objects or lines, and returns the status."""
+    if given.quiet and not status and not given.output:
+        return status
+    if given.json:
+        output.json({"format": "zonectl-sum/1", "status": int(status), "sums": sums}, given.output)
+    else:
+        output.result("".join(lines), given.output)
+    return status
 
 
 def stored(path: str, reader: Reader) -> Iterator[Sum]:
@@ -131,12 +138,8 @@ def check(given: argparse.Namespace, output: Output) -> int:
         text = {"one-serial": alarm(it.serial), "different": f"different: serial {now.serial}, was {it.serial}"}.get(result, result)
         worst = max(worst, 0 if now == it else 1)
         lines.append(f"{one_field(it.source)}: {text}\n")
-        sums.append({**object_of(now), "records": copy.records, "result": result})
-    if given.json:
-        output.json({"format": "zonectl-sum/1", "status": int(worst), "sums": sums}, given.output)
-    elif given.output or not (given.quiet and not worst):
-        output.result("".join(lines), given.output)
-    return worst
+        sums.append(object_of(now, copy, result=result))
+    return written(sums, lines, worst, given, output)
 
 
 def again(it: Sum, reader: Reader) -> tuple[Copy, Sum] | Failure:
