@@ -400,9 +400,10 @@ class Files(InFolder):
     def test_what_cannot_be_written(self) -> None:
         self.assert_failed(ran("normalise", "-o", "none/out", "a"), 4, "zonectl: none/out: it can't be written: no such file or directory")
         self.assert_failed(ran("normalise", "-o", "/dev/full", "a"), 4, "zonectl: /dev/full: it can't be written: no space left on device")
-        with open("/dev/full", "w") as out:
-            it = subprocess.run(command("normalise", "a"), stdout=out, stderr=subprocess.PIPE, env=environment(), text=True)
-        self.assertEqual((it.returncode, it.stderr), (4, "zonectl: standard output can't be written: no space left on device\n"))
+        for words in (["normalise", "a"], ["normalise", "--json", "a"], ["sum", "a"]):
+            with open("/dev/full", "w") as out:
+                it = subprocess.run(command(*words), stdout=out, stderr=subprocess.PIPE, env=environment(), text=True)
+            self.assertEqual((it.returncode, it.stderr), (4, "zonectl: standard output can't be written: no space left on device\n"))
 
         def limited() -> None:
             resource.setrlimit(resource.RLIMIT_FSIZE, (40, 40))

@@ -2,6 +2,7 @@
 from __future__ import annotations
 
 import argparse
+import contextlib
 import importlib
 import os
 import signal
@@ -16,6 +17,7 @@ from .outputs import Output, say, to_standard_output
 COMMANDS = {  # and the module of each
     "normalise": "normalise", "normalize": "normalise", "diff": "diff", "sum": "sum", "fetch": "fetch", "completion": "completion",
 }
+SIGNALS = (signal.SIGINT, signal.SIGHUP, signal.SIGTERM)
 LATER = ("check", "zonemd", "fleet")
 HELP = """\
 usage: zonectl COMMAND [OPTION].. SOURCE..
@@ -84,10 +86,11 @@ def failed(failure: Failure, output: Output, is_json: bool) -> int:
     output.end(failure.status)
     say(f"zonectl: {failure.sentence()}")
     if is_json:
-        output.json({
-            "format": "zonectl-error/1", "status": int(failure.status), "source": failure.source, "fault": failure.fault or None,
-            "name": failure.name, "line": failure.line, "text": failure.text,
-        })
+        with contextlib.suppress(Failure):  # where standard output is what failed
+            output.json({
+                "format": "zonectl-error/1", "status": int(failure.status), "source": failure.source, "fault": failure.fault or None,
+                "name": failure.name, "line": failure.line, "text": failure.text,
+            })
     return failure.status
 
 
@@ -120,12 +123,14 @@ def main(arguments: list[str]) -> int:
 
 
 def _interrupt(_number: int, _frame: object) -> NoReturn:
+    for number in SIGNALS:  # another one doesn't interrupt the end
+        signal.signal(number, signal.SIG_IGN)
     raise KeyboardInterrupt
 
 
 def script() -> NoReturn:
     """Runs the command line of the process."""
-    for number in (signal.SIGINT, signal.SIGHUP, signal.SIGTERM):
+    for number in SIGNALS:
         if signal.getsignal(number) != signal.SIG_IGN:
             signal.signal(number, _interrupt)
     for stream in filter(None, (sys.stdout, sys.stderr)):
