@@ -59,6 +59,10 @@ class Differences(InFolder):
             "b.x.", "  - 60 A 192.0.2.1", '  - 60 TXT "a"', "*.b.x.", "  + 60 A 192.0.2.9", "a.b.x.", "  - 60 A 192.0.2.1",
             "z.x.", '  - 60 CAA 0 issue "a"'])
 
+    def test_empty_rdata(self) -> None:
+        self.assertEqual(self.body("w APL\n", "w TYPE65280 \\# 0\n")[:3], ["w.x.", "  - 60 APL", "  + 60 TYPE65280 \\# 0"])
+        self.assertEqual(json.loads(ran("normalise", "--json", "a").out)["records"][-1]["rdata"], "")
+
     def test_rrsig_is_an_rrset_for_each_type_covered(self) -> None:
         signature = "w RRSIG {} 13 2 60 20260101000000 20250101000000 1 X. AAAA\n"
         it = self.diff(HEAD + signature.format("A"), HEAD + signature.format("AAAA"), "--json")

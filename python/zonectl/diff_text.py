@@ -32,7 +32,7 @@ def changes(it: RRset, is_on: bool) -> Iterator[str]:
         yield coloured(f"  ~ {it.shown} TTL {it.ttl_a} -> {it.ttl_b}", YELLOW, is_on)
     for sign, colour, rows in (("-", RED, it.gone), ("+", GREEN, it.come)):
         for ttl, kind, data in rows:
-            yield coloured(f"  {sign} {ttl} {kind} {data}", colour, is_on)
+            yield coloured(f"  {sign} {ttl} {kind} {data}".rstrip(), colour, is_on)
 
 
 def head(found: Difference, is_on: bool) -> list[str]:

@@ -174,8 +174,7 @@ def _change_ttl(it: RRset, sides: Sides) -> None:
 
 def presented(lines: Iterable[bytes]) -> list[Row]:
     """Returns TTL, type and RDATA of canonical lines, all types in presentation format."""
-    text = engine.presentation(b"".join(it + b"\n" for it in lines)).decode("ascii", "backslashreplace")
-    return [(ttl, kind, data) for _, ttl, _, kind, data in (line.split(" ", 4) for line in text.split("\n")[:-1])]
+    return [(ttl, kind, data) for _, ttl, _, kind, data in engine.presented(b"".join(it + b"\n" for it in lines))]
 
 
 def _present(rrsets: list[RRset]) -> None:

@@ -5,6 +5,7 @@ Not here before libzonenorm has the calls: `$INCLUDE` and `$GENERATE`, all fault
 from __future__ import annotations
 
 import re
+from collections.abc import Iterator
 from typing import NoReturn
 
 from .errors import Refusal, Undone
@@ -73,6 +74,12 @@ def _unread(octets: bytes, refused: zonenorm.Refused) -> None:
 def presentation(text: bytes) -> bytes:
     """Returns canonical lines with further types in presentation format, line by line."""
     return zonenorm.words(text)
+
+
+def presented(text: bytes) -> Iterator[list[str]]:
+    """Yields owner, TTL, class, type and RDATA of canonical lines in presentation format. The RDATA of an APL record may be empty."""
+    for line in presentation(text).decode("ascii", "backslashreplace").split("\n")[:-1]:
+        yield [*line.split(" ", 4), ""][:5]
 
 
 def verify(text: bytes) -> str:

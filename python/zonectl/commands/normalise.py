@@ -66,8 +66,7 @@ def text_of(copy: Copy, given: argparse.Namespace) -> bytes:
 
 def object_of(copy: Copy, is_folded: bool) -> dict[str, Any]:
     """Returns a copy as an object."""
-    text = engine.presentation(folded_text(copy.text) if is_folded else copy.text).decode("ascii", "backslashreplace")
-    lines = (line.split(" ", 4) for line in text.split("\n")[:-1])
+    lines = engine.presented(folded_text(copy.text) if is_folded else copy.text)
     return {
         "format": "zonectl-normalise/1", "status": 0, "zone": copy.apex, "class": copy.rdclass, "serial": copy.serial,
         "records": [{"owner": owner, "ttl": int(ttl), "class": rdclass, "type": kind, "rdata": rdata}
