@@ -1,3 +1,5 @@
 pub mod Digits
-pub mod LineSteps
+pub mod EntryItems
+pub mod OneLines
 pub mod TemplateSteps
+pub mod ValueLines

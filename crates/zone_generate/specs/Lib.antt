@@ -1,7 +1,10 @@
+pub mod Entry
 pub mod Lines
 pub mod Machine
 pub mod Modifier
 pub mod Number
 pub mod Range
+pub mod Steps
 pub mod Template
+pub mod Values
 pub mod Written

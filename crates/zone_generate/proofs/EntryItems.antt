@@ -1,0 +1,116 @@
+-- The items of a `$GENERATE` entry.
+use Rattle.std.proofs.Common.{◌≡◌, ℕ, ◌+◌, ◌-◌, ◌<◌, ◌≤◌, List, [], ◌∷◌, ◌++◌, length, map, take, refl, sym, ap, subst, arith, append_assoc, ◌∙◌, Option, Some, None, Bool, true, false, Result, Ok, Err}
+use Rattle.std.proofs.lemmas.Grind.{common_steps}
+use Rattle.std.proofs.Math.Seq.{take-append_seam}
+use Rattle.std.proofs.lemmas.List.{append-nil, length-append, length-map, take-map}
+use Rattle.std.specs.List.{flat_map}
+use Rattle.std.specs.Prelude.{is_some}
+use Rattle.zone_rdata.specs.Item.{RawItem, bare, quoted}
+use Rattle.zone_text.proofs.Heads.WordsLeft.{class_joined, next_part, parts_by, ttl_joined}
+use Rattle.zone_text.specs.Statements.{Parts, Word, ttl, class, ttl_among, class_among, parts_after, word_after, is_class_word, begins_with_digit, unless_stated}
+use Rattle.zone_rdata.specs.Item.{raw}
+use Rattle.zone_rdata.specs.declared.item.Item.{Item}
+use Rattle.zone_generate.specs.Entry.{Generation, generation_by, generation_in, with_type, word_and_blank}
+use Rattle.zone_generate.specs.Machine.{item_and_blank}
+
+-- ---- items that are parts
+
+-- the words of parts are the items before the type
+pub record ArePart (words : List Word) (items : List RawItem) (parts : Parts) : Type 0 where
+  pub front : List RawItem
+  pub more : List Word
+  pub items_are : items ≡ front ++ parts.rest
+  pub words_are : parts.words ≡ words ++ more
+  pub written : flat_map item_and_blank front ≡ flat_map word_and_blank more
+  pub count : length front ≡ length more
+
+word_is : (words : List Word) (item : RawItem) (word : Word) → word_after words item ≡ Some word → item_and_blank item ≡ word_and_blank word
+word_is words (quoted text) word e = absurd cc
+word_is words (bare text) word e = grind arith
+
+pub are_part : (items : List RawItem) (words : List Word) → ArePart words items (parts_after words items)
+are_part [] words = record { front = []; more = []; items_are = refl; words_are = sym (append-nil words); written = refl; count = refl }
+are_part (item ∷ items) words = by (word_after words item) refl
+  where
+    by : (o : Option Word) → word_after words item ≡ o → ArePart words (item ∷ items) (parts_after words (item ∷ items))
+    by None e = subst (ArePart words (item ∷ items)) (sym (next_part words item items None e)) (record { front = []; more = []; items_are = refl; words_are = sym (append-nil words); written = refl; count = refl })
+    by (Some word) e =
+        let found = are_part items (words ++ word ∷ []) in
+        subst (ArePart words (item ∷ items)) (sym (next_part words item items (Some word) e)) (record {
+          front = item ∷ found.front;
+          more = word ∷ found.more;
+          items_are = ap (λ t. item ∷ t) found.items_are;
+          words_are = found.words_are ∙ append_assoc words (word ∷ []) found.more;
+          written = ap (λ t. t ++ flat_map item_and_blank found.front) (word_is words item word e) ∙ ap (λ t. word_and_blank word ++ t) found.written;
+          count = ap (λ n. n + 1) found.count;
+        })
+
+-- ---- there are few items
+
+-- one for each kind of word
+abbrev number : Bool → ℕ
+number true = 1
+number false = 0
+
+abbrev FewWords : List Word → Type 0
+FewWords words = length words ≤ number (is_some (ttl_among words)) + number (is_some (class_among words))
+
+few_more : (words : List Word) (item : RawItem) (word : Word) → word_after words item ≡ Some word → FewWords words → FewWords (words ++ word ∷ [])
+few_more words item word e few = grind (arith, common_steps, ttl_joined, class_joined)
+
+few_words : (items : List RawItem) (words : List Word) → FewWords words → FewWords (parts_after words items).words
+few_words [] words few = few
+few_words (item ∷ items) words few = by (word_after words item) refl
+  where
+    by : (o : Option Word) → word_after words item ≡ o → FewWords (parts_after words (item ∷ items)).words
+    by None e = subst (λ (p : Parts). FewWords p.words) (sym (next_part words item items None e)) few
+    by (Some word) e = subst (λ (p : Parts). FewWords p.words) (sym (next_part words item items (Some word) e)) (few_words items (words ++ word ∷ []) (few_more words item word e few))
+
+at_most_two : (words : List Word) → FewWords words → length words ≤ 2
+at_most_two words few = two (is_some (ttl_among words)) (is_some (class_among words)) (length words) few
+  where
+    two : (a b : Bool) (n : ℕ) → n ≤ number a + number b → n ≤ 2
+    two true true n le = le
+    two true false n le = omega arith
+    two false true n le = omega arith
+    two false false n le = omega arith
+
+type_and_data : (range owner : List ℕ) (words : List Word) (rest : List RawItem) (g : Generation) → generation_by (with_type range owner words rest) ≡ Ok g → length rest ≡ 2
+type_and_data range owner words (bare kind ∷ item ∷ []) g e = refl
+type_and_data range owner words [] g e = absurd cc
+type_and_data range owner words (quoted text ∷ rest) g e = absurd cc
+type_and_data range owner words (bare kind ∷ []) g e = absurd cc
+type_and_data range owner words (bare kind ∷ item ∷ other ∷ rest) g e = absurd cc
+
+pub few_items : (items : List RawItem) (g : Generation) → generation_in items ≡ Ok g → length items < 7
+few_items [] g e = absurd cc
+few_items (quoted range ∷ items) g e = absurd cc
+few_items (bare range ∷ []) g e = absurd cc
+few_items (bare range ∷ quoted owner ∷ items) g e = absurd cc
+few_items (bare range ∷ bare owner ∷ items) g e =
+    let parts = parts_after [] items in
+    let found = are_part items [] in
+    let two : length parts.rest ≡ 2 = type_and_data range owner parts.words parts.rest g e in
+    let few : length parts.words ≤ 2 = at_most_two parts.words (few_words items [] (omega arith)) in
+    let all : length items ≡ length found.front + length parts.rest = ap length found.items_are ∙ length-append found.front parts.rest in
+    let same : length found.front ≡ length parts.words = found.count ∙ ap length (sym found.words_are) in
+    omega (arith, two, few, all, same)
+
+-- ---- the items between the owner and the type
+
+pub type_behind : (rest from_type : List Item) → (parts_after [] (map raw rest)).rest ≡ map raw from_type → length from_type ≤ length rest
+type_behind rest from_type is =
+    let found = are_part (map raw rest) [] in
+    let all : length rest ≡ length found.front + length from_type = sym (length-map rest raw) ∙ ap length found.items_are ∙ length-append found.front (parts_after [] (map raw rest)).rest ∙ ap (λ n. length found.front + n) (ap length is ∙ length-map from_type raw) in
+    omega (arith, all)
+
+pub middle_is : (rest from_type words : List Item) (n : ℕ) → (parts_after [] (map raw rest)).rest ≡ map raw from_type → words ≡ take n rest → n ≡ length rest - length from_type → flat_map item_and_blank (map raw words) ≡ flat_map word_and_blank (parts_after [] (map raw rest)).words
+middle_is rest from_type words n is front count =
+    let parts = parts_after [] (map raw rest) in
+    let found = are_part (map raw rest) [] in
+    let all : length rest ≡ length found.front + length from_type = sym (length-map rest raw) ∙ ap length found.items_are ∙ length-append found.front parts.rest ∙ ap (λ n. length found.front + n) (ap length is ∙ length-map from_type raw) in
+    let size : n ≡ length found.front = omega (arith, all, count) in
+    let cut : map raw words ≡ found.front =
+        ap (map raw) front ∙ sym (take-map raw n rest) ∙ ap (λ k. take k (map raw rest)) size ∙ ap (take (length found.front)) found.items_are ∙ take-append_seam found.front parts.rest
+    in
+    ap (flat_map item_and_blank) cut ∙ found.written ∙ ap (flat_map word_and_blank) (sym found.words_are)
