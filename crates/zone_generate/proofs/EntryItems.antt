@@ -1,5 +1,5 @@
 -- The items of a `$GENERATE` entry.
-use Rattle.std.proofs.Common.{◌≡◌, ℕ, ◌+◌, ◌-◌, ◌<◌, ◌≤◌, List, [], ◌∷◌, ◌++◌, length, map, take, refl, sym, ap, subst, arith, append_assoc, ◌∙◌, Option, Some, None, Bool, true, false, Result, Ok, Err}
+use Rattle.std.proofs.Common.{◌≡◌, ◌≢◌, ℕ, suc, ◌+◌, ◌-◌, ◌<◌, ◌≤◌, List, [], ◌∷◌, ◌++◌, length, map, take, get_or, refl, sym, ap, subst, arith, append_assoc, ◌∙◌, Option, Some, None, Bool, true, false, Result, Ok, Err}
 use Rattle.std.proofs.lemmas.Grind.{common_steps}
 use Rattle.std.proofs.Math.Seq.{take-append_seam}
 use Rattle.std.proofs.lemmas.List.{append-nil, length-append, length-map, take-map}
@@ -10,7 +10,7 @@ use Rattle.zone_text.proofs.Heads.WordsLeft.{class_joined, next_part, parts_by, 
 use Rattle.zone_text.specs.Statements.{Parts, Word, ttl, class, ttl_among, class_among, parts_after, word_after, is_class_word, begins_with_digit, unless_stated}
 use Rattle.zone_rdata.specs.Item.{raw}
 use Rattle.zone_rdata.specs.declared.item.Item.{Item}
-use Rattle.zone_generate.specs.Entry.{Generation, generation_by, generation_in, with_type, word_and_blank}
+use Rattle.zone_generate.specs.Entry.{Generation, Stated, generation_by, generation_in, stated_in, template_in, with_type, word_and_blank}
 use Rattle.zone_generate.specs.Machine.{item_and_blank}
 
 -- ---- items that are parts
@@ -28,22 +28,22 @@ word_is : (words : List Word) (item : RawItem) (word : Word) → word_after word
 word_is words (quoted text) word e = absurd cc
 word_is words (bare text) word e = grind arith
 
+part_by : (item : RawItem) (items : List RawItem) (words : List Word) (o : Option Word) → word_after words item ≡ o → ((word : Word) → ArePart (words ++ word ∷ []) items (parts_after (words ++ word ∷ []) items)) → ArePart words (item ∷ items) (parts_after words (item ∷ items))
+part_by item items words None e goes = subst (ArePart words (item ∷ items)) (sym (next_part words item items None e)) (record { front = []; more = []; items_are = refl; words_are = sym (append-nil words); written = refl; count = refl })
+part_by item items words (Some word) e goes =
+    let found = goes word in
+    subst (ArePart words (item ∷ items)) (sym (next_part words item items (Some word) e)) (record {
+      front = item ∷ found.front;
+      more = word ∷ found.more;
+      items_are = ap (λ t. item ∷ t) found.items_are;
+      words_are = found.words_are ∙ append_assoc words (word ∷ []) found.more;
+      written = ap (λ t. t ++ flat_map item_and_blank found.front) (word_is words item word e) ∙ ap (λ t. word_and_blank word ++ t) found.written;
+      count = ap (λ n. suc n) found.count;
+    })
+
 pub are_part : (items : List RawItem) (words : List Word) → ArePart words items (parts_after words items)
 are_part [] words = record { front = []; more = []; items_are = refl; words_are = sym (append-nil words); written = refl; count = refl }
-are_part (item ∷ items) words = by (word_after words item) refl
-  where
-    by : (o : Option Word) → word_after words item ≡ o → ArePart words (item ∷ items) (parts_after words (item ∷ items))
-    by None e = subst (ArePart words (item ∷ items)) (sym (next_part words item items None e)) (record { front = []; more = []; items_are = refl; words_are = sym (append-nil words); written = refl; count = refl })
-    by (Some word) e =
-        let found = are_part items (words ++ word ∷ []) in
-        subst (ArePart words (item ∷ items)) (sym (next_part words item items (Some word) e)) (record {
-          front = item ∷ found.front;
-          more = word ∷ found.more;
-          items_are = ap (λ t. item ∷ t) found.items_are;
-          words_are = found.words_are ∙ append_assoc words (word ∷ []) found.more;
-          written = ap (λ t. t ++ flat_map item_and_blank found.front) (word_is words item word e) ∙ ap (λ t. word_and_blank word ++ t) found.written;
-          count = ap (λ n. n + 1) found.count;
-        })
+are_part (item ∷ items) words = part_by item items words (word_after words item) refl (λ word. are_part items (words ++ word ∷ []))
 
 -- ---- there are few items
 
@@ -58,13 +58,13 @@ FewWords words = length words ≤ number (is_some (ttl_among words)) + number (i
 few_more : (words : List Word) (item : RawItem) (word : Word) → word_after words item ≡ Some word → FewWords words → FewWords (words ++ word ∷ [])
 few_more words item word e few = grind (arith, common_steps, ttl_joined, class_joined)
 
+few_by : (item : RawItem) (items : List RawItem) (words : List Word) (o : Option Word) → word_after words item ≡ o → FewWords words → ((word : Word) → FewWords (words ++ word ∷ []) → FewWords (parts_after (words ++ word ∷ []) items).words) → FewWords (parts_after words (item ∷ items)).words
+few_by item items words None e few goes = subst (λ (p : Parts). FewWords p.words) (sym (next_part words item items None e)) few
+few_by item items words (Some word) e few goes = subst (λ (p : Parts). FewWords p.words) (sym (next_part words item items (Some word) e)) (goes word (few_more words item word e few))
+
 few_words : (items : List RawItem) (words : List Word) → FewWords words → FewWords (parts_after words items).words
 few_words [] words few = few
-few_words (item ∷ items) words few = by (word_after words item) refl
-  where
-    by : (o : Option Word) → word_after words item ≡ o → FewWords (parts_after words (item ∷ items)).words
-    by None e = subst (λ (p : Parts). FewWords p.words) (sym (next_part words item items None e)) few
-    by (Some word) e = subst (λ (p : Parts). FewWords p.words) (sym (next_part words item items (Some word) e)) (few_words items (words ++ word ∷ []) (few_more words item word e few))
+few_words (item ∷ items) words few = few_by item items words (word_after words item) refl few (λ word. few_words items (words ++ word ∷ []))
 
 at_most_two : (words : List Word) → FewWords words → length words ≤ 2
 at_most_two words few = two (is_some (ttl_among words)) (is_some (class_among words)) (length words) few
@@ -111,6 +111,34 @@ middle_is rest from_type words n is front count =
     let all : length rest ≡ length found.front + length from_type = sym (length-map rest raw) ∙ ap length found.items_are ∙ length-append found.front parts.rest ∙ ap (λ n. length found.front + n) (ap length is ∙ length-map from_type raw) in
     let size : n ≡ length found.front = omega (arith, all, count) in
     let cut : map raw words ≡ found.front =
-        ap (map raw) front ∙ sym (take-map raw n rest) ∙ ap (λ k. take k (map raw rest)) size ∙ ap (take (length found.front)) found.items_are ∙ take-append_seam found.front parts.rest
+    ap (map raw) front ∙ sym (take-map raw n rest) ∙ ap (λ k. take k (map raw rest)) size ∙ ap (take (length found.front)) found.items_are ∙ take-append_seam found.front parts.rest
     in
     ap (flat_map item_and_blank) cut ∙ found.written ∙ ap (flat_map word_and_blank) (sym found.words_are)
+
+-- ---- what the items state
+
+pub states_by : (items rest more from_type those : List Item) (range owner kind : List ℕ) → map raw items ≡ bare range ∷ map raw rest → map raw rest ≡ bare owner ∷ map raw more → (parts_after [] (map raw more)).rest ≡ map raw from_type → map raw from_type ≡ bare kind ∷ map raw those → stated_in (map raw items) ≡ with_type range owner (parts_after [] (map raw more)).words (bare kind ∷ map raw those)
+states_by items rest more from_type those range owner kind first second third fourth =
+    ap stated_in (first ∙ ap (λ t. bare range ∷ t) second) ∙ ap (with_type range owner (parts_after [] (map raw more)).words) (third ∙ fourth)
+
+other_data : (those : List Item) (range owner kind : List ℕ) (words : List Word) → length those ≢ 1 → with_type range owner words (bare kind ∷ map raw those) ≡ None
+other_data [] range owner kind words other = refl
+other_data (x ∷ []) range owner kind words other = absurd (other refl)
+other_data (x ∷ y ∷ those) range owner kind words other = refl
+
+pub states_none : (items rest more from_type those : List Item) (range owner kind : List ℕ) → map raw items ≡ bare range ∷ map raw rest → map raw rest ≡ bare owner ∷ map raw more → (parts_after [] (map raw more)).rest ≡ map raw from_type → map raw from_type ≡ bare kind ∷ map raw those → length those ≢ 1 → stated_in (map raw items) ≡ None
+states_none items rest more from_type those range owner kind first second third fourth other =
+    states_by items rest more from_type those range owner kind first second third fourth ∙ other_data those range owner kind (parts_after [] (map raw more)).words other
+
+one_datum : (those : List Item) (d : Item) → length those ≡ 1 → those ≡ get_or those 0 d ∷ []
+one_datum [] d one = absurd (omega (arith, one))
+one_datum (x ∷ []) d one = refl
+one_datum (x ∷ y ∷ those) d one = absurd (omega (arith, one))
+
+pub states_some : (items rest more from_type those words : List Item) (d : Item) (n : ℕ) (range owner kind : List ℕ) → map raw items ≡ bare range ∷ map raw rest → map raw rest ≡ bare owner ∷ map raw more → (parts_after [] (map raw more)).rest ≡ map raw from_type → map raw from_type ≡ bare kind ∷ map raw those → length those ≡ 1 → words ≡ take n more → n ≡ length more - length from_type → stated_in (map raw items) ≡ Some (record { range = range; templates = record { owner = owner; middle = flat_map item_and_blank (map raw words) ++ kind; rdata = template_in (raw (get_or those 0 d)) } })
+states_some items rest more from_type those words d n range owner kind first second third fourth one front count =
+    let parts = parts_after [] (map raw more) in
+    let x = get_or those 0 d in
+    states_by items rest more from_type those range owner kind first second third fourth
+    ∙ ap (λ t. with_type range owner parts.words (bare kind ∷ map raw t)) (one_datum those d one)
+    ∙ ap (λ m. Some (record { range = range; templates = record { owner = owner; middle = m ++ kind; rdata = template_in (raw x) } })) (sym (middle_is more from_type words n third front count))

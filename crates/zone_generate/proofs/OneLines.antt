@@ -1,6 +1,8 @@
 -- Octets that are one entry of one line.
 use Rattle.zone_text.proofs.Common.{AreTokens, Cut, Cuts, EndInLineFeed, Fault, IsBrokenOff, IsFirstEntry, IsOneEntry, IsOpen, List, RawItem, Token, [], add-zero, ap, append-nil, append_assoc, arith, cases_eq, count_by, cut_from, drop, eqb-true, inl, inr, length, length-append, length-drop, length-take, line_feed, refl, rules, subst, sum_by-append, sym, take, take-append-drop, take-length, text, token_text, true, zero, ℕ, ◌++◌, ◌+◌, ◌<◌, ◌==◌, ◌∙◌, ◌∷◌, ◌≡◌, ◌≤◌, ◌⊎◌}
-use Rattle.std.proofs.Common.{◌≢◌}
+use Rattle.std.proofs.Common.{◌≢◌, false}
+use Rattle.std.proofs.lemmas.Bool.Decides.{nat_tests}
+use Rattle.std.specs.Prelude.{IsTrue, nat_eq}
 use Rattle.std.proofs.lemmas.List.{take-append-le}
 use Rattle.zone_text.proofs.Tokens.CutAgain.{AreEnded, cut_ended, cut_whole, joined}
 use Rattle.zone_text.proofs.Tokens.Cuttings.{cut_not_broken, cut_or_broken, one_cut}
@@ -100,11 +102,25 @@ one_of_cut tokens cut is = by_parts cut.ended cut.open_tokens (is)
 pub one_line_or_not : (octets : List ℕ) → IsOneLine octets ⊎ (IsOneLine octets → ⊥)
 one_line_or_not octets = elim (cut_or_broken octets) [
   | inl cut ↦ elim (one_of_cut cut.0 (cut_from zero cut.0) refl) [
-      | inl one ↦ elim (cases_eq (feeds octets) 1) [
-          | inl feeds ↦ inl (record { tokens = cut.0; one = record { cut = cut.1; ended = one }; feeds = feeds })
-          | inr feeds ↦ inr (λ line. feeds line.feeds)
-        ]
-      | inr other ↦ inr (other_tokens octets cut.0 cut.1 other)
+    | inl one ↦ elim (cases_eq (feeds octets) 1) [
+      | inl feeds ↦ inl (record { tokens = cut.0; one = record { cut = cut.1; ended = one }; feeds = feeds })
+      | inr feeds ↦ inr (λ line. feeds line.feeds)
     ]
+    | inr other ↦ inr (other_tokens octets cut.0 cut.1 other)
+  ]
   | inr breaks ↦ inr (λ line. cut_not_broken octets line.tokens breaks.0 breaks.1 line.one.cut breaks.2)
 ]
+
+-- whether the first entry is all octets
+pub whole_or_part : (octets : List ℕ) (n : ℕ) (kept : List RawItem) → IsFirstEntry octets n kept → feeds octets ≡ 1 → (IsTrue (nat_eq n (length octets)) → IsOneLine octets) × (IsOneLine octets → IsTrue (nat_eq n (length octets)))
+whole_or_part octets n kept first one = (
+  λ same. whole_line octets n kept first (let e : n ≡ length octets = grind (arith, nat_tests) in e) one,
+  λ line. elim (cases_eq n (length octets)) [
+    | inl same ↦ (let e : IsTrue (nat_eq n (length octets)) = grind (arith, nat_tests) in e)
+    | inr other ↦ absurd (part_of_line octets n kept first other line)
+  ],
+)
+
+-- octets that are none
+pub no_line : (octets : List ℕ) → (IsOneLine octets → ⊥) → (IsTrue false → IsOneLine octets) × (IsOneLine octets → IsTrue false)
+no_line octets none = (λ is. absurd (let e : ⊥ = grind arith in e), λ line. absurd (none line))

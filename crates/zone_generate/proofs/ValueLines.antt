@@ -6,7 +6,12 @@ use Rattle.zone_name.specs.Common.{NothingIs}
 use Rattle.zone_generate.proofs.OneLines.{one_line_or_not}
 use Rattle.zone_generate.specs.Lines.{AreLines, BeginWithLine, IsLineFor, IsOneLine, SaysNothing, Templates, line_of}
 use Rattle.zone_generate.specs.Range.{values_from, values_of}
+use Rattle.zone_generate.specs.Entry.{Generation}
+use Rattle.zone_generate.specs.Steps.{IsAtFault, TakesValue}
 use Rattle.zone_generate.specs.Values.{AreSmall}
+use Rattle.zone_generate.specs.Written.{IfBadTemplate}
+use Rattle.zone_generate.specs.declared.failing.LineFailing.{LineFailing}
+use Rattle.zone_generate.specs.declared.failing.LineFailing.TheVariants.{BadTemplate, OutOfMemory}
 use Rattle.zone_generate.specs.declared.range.Range.{Range}
 
 -- ---- values
@@ -21,11 +26,13 @@ pub no_values : (count step value : ℕ) → count ≡ 0 → values_from count s
 unfolding values_from
 no_values count step value none = ap (λ k. values_from k step value) none
 
+mul_more : (k step : ℕ) → k * step + step ≡ suc k * step
+mul_more k step = omega arith
+
 one_less : (count step : ℕ) → 0 < count → (count - 1) * step + step ≡ count * step
 one_less count step some =
-    let k : ℕ = count - 1 in
     let e : count ≡ suc (count - 1) = omega arith in
-    subst (λ n. (n - 1) * step + step ≡ n * step) (sym e) (omega arith)
+    mul_more (count - 1) step ∙ ap (λ n. n * step) (sym e)
 
 pub small_first : (r : Range) → AreSmall r → 0 < r.count → r.start < 2 ^ 31
 small_first r small some =
@@ -37,6 +44,16 @@ pub small_next : (count step start : ℕ) → start + count * step < 2 ^ 31 + st
 small_next count step start last some =
     let less = one_less count step some in
     omega (arith, last, less)
+
+-- ---- taking the first value
+
+pub at_fault : (failing : LineFailing) (g : Generation) (t : Templates) (value : ℕ) (left : List ℕ) → t ≡ g.templates → g.values ≡ value ∷ left → IfBadTemplate (λ at. (at ≡ value) × SaysNothing t value) failing → IfBadTemplate (IsAtFault g) failing
+at_fault (BadTemplate at) g t value left same values bad = record {
+  left = left;
+  values = values ∙ ap (λ v. v ∷ left) (sym bad.0);
+  nothing = subst (λ u. SaysNothing u at) same (subst (SaysNothing t) (sym bad.0) bad.1);
+}
+at_fault OutOfMemory g t value left same values bad = bad
 
 -- ---- lines
 
@@ -88,3 +105,23 @@ of_two_values t first second text (inr are) = (are.line, are.rest, are.first, of
 
 pub two_values : (t : Templates) (first second : ℕ) (text : List ℕ) → AreTwo t first second text → AreLines t (first ∷ second ∷ []) text None
 two_values t first second text two = inr (record { line = two.0; rest = two.1; first = two.2; others = one_value t second two.1 two.3; joined = two.4 })
+
+pub ruleset one_value_lines = (of_one_value, one_value)
+
+pub ruleset two_value_lines = (of_two_values, two_values)
+
+-- ---- lines that are taken one by one
+
+pub taken : (old new : Generation) (value : ℕ) (before after rest : List ℕ) (fault : Option ℕ) → TakesValue old value new before after → AreLines new.templates new.values rest fault → (text : List ℕ) × AreLines old.templates old.values text fault × (after ++ rest ≡ before ++ text)
+taken old new value before after rest fault takes are =
+    let others : AreLines old.templates new.values rest fault = subst (λ t. AreLines t new.values rest fault) takes.templates are in
+    let all : AreLines old.templates (value ∷ new.values) (takes.line ++ rest) fault = begin_with old.templates value new.values takes.line rest fault takes.is others in
+    (takes.line ++ rest, subst (λ v. AreLines old.templates v (takes.line ++ rest) fault) (sym takes.values) all, ap (λ t. t ++ rest) takes.appended ∙ append_assoc before takes.line rest)
+
+pub none_left : (g : Generation) → g.values ≡ [] → AreLines g.templates g.values [] None
+none_left g none = subst (λ v. AreLines g.templates v [] None) (sym none) (refl, refl)
+
+pub stopped : (g : Generation) (value : ℕ) → IsAtFault g value → AreLines g.templates g.values [] (Some value)
+stopped g value is = subst (λ v. AreLines g.templates v [] (Some value)) (sym is.values) (inl (is.nothing, refl, refl))
+
+pub ruleset taken_lines = (taken, none_left, stopped)

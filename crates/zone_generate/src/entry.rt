@@ -2,6 +2,7 @@
 ghost use Rattle.std.specs.Prelude.{◌≡◌, ◌++◌, IfNone, IfSome, IfOk, None, OnOk, Some, map};
 ghost use Rattle.std.specs.List.{flat_map};
 ghost use Rattle.zone_rdata.specs.Item.{raw};
+ghost use Rattle.zone_rdata.specs.Strings.{item_text};
 ghost use Rattle.zone_generate.specs.Entry.{begins_with_quote, stated_in, template_in, unquoted};
 ghost use Rattle.zone_generate.specs.Machine.{item_and_blank, stated_of};
 
@@ -29,15 +30,15 @@ pub(crate) fn parts_of<'i, 't>(items: &'i [Item<'t>]) -> Option<Parts<'i, 't>>
     let (owner, rest) = split_bare(rest)?;
     let from_type = record_parts(rest).rest;
     let (kind, data) = split_bare(from_type)?;
-    let [rdata] = data else {
+    if data.len() != 1 {
         return None;
-    };
+    }
     Some(Parts {
         range,
         owner,
         words: &rest[..rest.len() - from_type.len()],
         kind,
-        rdata: *rdata,
+        rdata: data[0],
     })
 }
 
@@ -54,10 +55,11 @@ fn push_unquoted(text: &[u8], out: &mut Vec<u8>) -> Result<(), AllocError>
 {
     let mut rest = text;
     while let Some((first, after)) = rest.split_first() {
-        if *first != b'\\' || !begins_with_quote(after) {
-            out.push(*first)?;
-        }
         rest = after;
+        if *first == b'\\' && begins_with_quote(after) {
+            continue;
+        }
+        out.push(*first)?;
     }
     Ok(())
 }
@@ -74,21 +76,24 @@ pub(crate) fn template_in(alloc: Global, item: Item<'_>) -> Result<Vec<u8>, Allo
     Ok(template)
 }
 
+/// The octets of an item, without quotes.
+fn text_of<'t>(item: Item<'t>) -> &'t [u8]
+    ensures { result.now ≡ item_text (raw item.entry) }
+{
+    match item {
+        Item::Bare(text) => text,
+        Item::Quoted(text) => text,
+    }
+}
+
 /// The words before a type, each with a blank after it, and the type.
-pub(crate) fn joined(
-    alloc: Global,
-    words: &[Item<'_>],
-    kind: &[u8],
-) -> Result<Vec<u8>, AllocError>
+pub(crate) fn joined(alloc: Global, words: &[Item<'_>], kind: &[u8]) -> Result<Vec<u8>, AllocError>
     ensures { IfOk result (λ joined. joined.items
         ≡ flat_map item_and_blank (map raw words.now) ++ kind.now) }
 {
     let mut joined = Vec::new(alloc);
     for word in words {
-        match *word {
-            Item::Bare(text) => joined.extend_from_slice(text)?,
-            Item::Quoted(text) => joined.extend_from_slice(text)?,
-        }
+        joined.extend_from_slice(text_of(*word))?;
         joined.push(b' ')?;
     }
     joined.extend_from_slice(kind)?;

@@ -41,8 +41,9 @@ impl Model for Generated {
     ghost Value = { Generation };
 
     ghost view = { λ g. record {
-        templates = record { owner = g.owner.items; middle = g.middle.items; rdata = g.rdata.items };
-        values = values_of g.left } };
+      templates = record { owner = g.owner.items; middle = g.middle.items; rdata = g.rdata.items };
+      values = values_of g.left;
+    } };
 
     ghost invariant = { λ g. AreSmall g.left };
 }
@@ -157,7 +158,9 @@ impl Generated {
             middle: &self.middle,
             rdata: &self.rdata,
         };
-        make_line(self.alloc, templates, value, &mut self.line)?;
+        if let Err(failing) = make_line(self.alloc, templates, value, &mut self.line) {
+            return Err(failing);
+        }
         out.extend_from_slice(&self.line)?;
         self.left = after_first(self.left);
         Ok(Some(value))

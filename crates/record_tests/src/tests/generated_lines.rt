@@ -1,49 +1,77 @@
-//! Lines of `$GENERATE`: ranges, templates and numbers. What is wanted is what BIND 9.18 makes of
-//! the same range and templates.
+//! Lines of `$GENERATE`: entries, ranges, templates and numbers. What is wanted is what BIND 9.18
+//! makes of the same entries.
 use std::alloc::Global;
 use std::test::Fail;
-use test_support::{Question, check_lines, check_octets, check_table, parted, push_text};
-use zone_generate::{
-    GenerateFailing, Templates, expand, modifier_in, push_line, push_lines, push_number, range_in,
+use test_support::{
+    Question, check_lines, check_octets, check_same, check_table, parted, push_text, push_words,
 };
+use zone_generate::{
+    GenerateFailing, GenerateFault, Generated, LineFailing, Range, RangeFault, TemplateFailing,
+    expand, modifier_in, push_number, range_in,
+};
+use zone_rdata::Item;
+use zone_text::{FirstEntry, first_entry};
 
 /// Appends what was written, or `refused`.
 fn push_written(
     out: &mut Vec<u8>,
     written: &[u8],
-    done: Result<(), GenerateFailing>,
+    done: Result<(), TemplateFailing>,
 ) -> Result<(), Fail> {
     match done {
         Ok(()) => Ok(out.extend_from_slice(written)?),
-        Err(GenerateFailing::Malformed) => push_text(out, "refused"),
-        Err(GenerateFailing::OutOfMemory) => Err(Fail::from("memory")),
+        Err(TemplateFailing::SaysNothing) => push_text(out, "refused"),
+        Err(TemplateFailing::OutOfMemory) => Err(Fail::from("memory")),
     }
 }
 
-/// The lines of `RANGE OWNER TYPE DATA`.
-struct Generated;
+/// The name of a fault.
+fn name_of(fault: GenerateFault) -> &'static str {
+    match fault {
+        GenerateFault::BadGenerate => "BadGenerate",
+        GenerateFault::BadRange => "BadRange",
+        GenerateFault::TooManyValues => "TooManyValues",
+    }
+}
 
-impl Question for Generated {
+/// Appends the lines for values, of which there are fewer than 32, and the fault of the first that
+/// has none.
+fn push_lines(alloc: Global, mut generated: Generated, out: &mut Vec<u8>) -> Result<(), Fail> {
+    for _ in 0..32 {
+        match generated.next_line(out) {
+            Ok(Some(_)) => {}
+            Ok(None) => return Ok(()),
+            Err(LineFailing::BadTemplate(value)) => {
+                return push_words(alloc, out, format_args!("BadTemplate {value}"));
+            }
+            Err(LineFailing::OutOfMemory) => return Err(Fail::from("memory")),
+        }
+    }
+    Err(Fail::from("many values"))
+}
+
+/// The lines of what comes after the word `$GENERATE`, and the fault.
+struct Lines;
+
+impl Question for Lines {
     fn answer(alloc: Global, asked: &'static str, out: &mut Vec<u8>) -> Result<(), Fail> {
-        let (range, rest) = parted(asked, " ")?;
-        let (owner, rest) = parted(rest, " ")?;
-        let (middle, rdata) = parted(rest, " ")?;
-        let Some(range) = range_in(range.as_bytes()) else {
-            return push_text(out, "no range");
+        let mut entry = Vec::new(alloc);
+        entry.extend_from_slice(asked.as_bytes())?;
+        entry.push(b'\n')?;
+        let mut items = Vec::new(alloc);
+        let FirstEntry::Whole(_) = first_entry(&entry, &mut items)? else {
+            return push_text(out, "no entry");
         };
-        let templates = Templates {
-            owner: owner.as_bytes(),
-            middle: middle.as_bytes(),
-            rdata: rdata.as_bytes(),
-        };
-        let mut lines = Vec::new(alloc);
-        let done = push_lines(alloc, templates, range, &mut lines);
-        push_written(out, &lines, done)
+        match Generated::of_items(alloc, &items) {
+            Ok(generated) => push_lines(alloc, generated, out),
+            Err(GenerateFailing::Fault(fault)) => push_text(out, name_of(fault)),
+            Err(GenerateFailing::OutOfMemory) => Err(Fail::from("memory")),
+        }
     }
 }
 
-/// Ranges with a template each, and their lines: `== ` stands before each range, `=>` after it.
-const RANGES: &str = "\
+/// Entries with their lines: `== ` stands before each entry, `=>` after it.
+const ENTRIES: &str = "\
 == 1-3 a$ A 1.2.3.$=>a1 A 1.2.3.1
 a2 A 1.2.3.2
 a3 A 1.2.3.3
@@ -52,55 +80,158 @@ a3 A 1.2.3.3
 == 01-003 a$ A 1.2.3.4=>a1 A 1.2.3.4
 a2 A 1.2.3.4
 a3 A 1.2.3.4
+== 10-12 host-${-9,2,d} A 192.0.2.$=>host-01 A 192.0.2.10
+host-02 A 192.0.2.11
+host-03 A 192.0.2.12
+== 171-172 ${0,5,n}.e A 192.0.2.$=>b.a.0.e A 192.0.2.171
+c.a.0.e A 192.0.2.172
 == 2147483646-2147483647 a$ A 1.2.3.4=>a2147483646 A 1.2.3.4
 a2147483647 A 1.2.3.4
+== 2147483647-2147483647/9999999999 a$ A 1.2.3.4=>a2147483647 A 1.2.3.4
 == 1-2 $$a$ TXT $$$=>\\$a1 TXT \\$1
 \\$a2 TXT \\$2
 == 1-2 \\$a$ TXT \\$$=>\\$a1 TXT \\$1
 \\$a2 TXT \\$2
-== 10-11 a\\0$ TXT b=>a\\010 TXT b
-a\\011 TXT b
 == 1-2 a${-5} TXT x${-5}=>a-4 TXT x-4
 a-3 TXT x-3
 == 171-172 a${0,5,n} TXT ${0,6,N}=>ab.a.0 TXT B.A.0.
 ac.a.0 TXT C.A.0.
 == 1-2 a TXT ${2147483645}=>a TXT 2147483646
 a TXT 2147483647
+== 1-1 ( a\t60 ; a comment
+ IN ) TXT $=>a 60 IN TXT 1
+== 1-1 a IN  60 TXT $=>a IN 60 TXT 1
+== 1-1 a 60 60 $=>a 60 60 1
+== 1-1 t TXT \"x $\"=>t TXT x 1
+== 1-1 t TXT \"\\\"x $\\\"\"=>t TXT \"x 1\"
+== 1-1 t TXT \"(\\\")\\\")\"=>t TXT (\")\")
+== 1-1 ${5}a${0} TXT $=>6a1 TXT 1
+== 1-1 $a${5} TXT $=>1a6 TXT 1
+== 1-1 ${-0}a$ TXT $=>1a1 TXT 1
 ";
 
 #[test]
-fn ranges_generate_lines(rt: HostRuntime) -> Result<(), Fail> {
-    check_table::<Generated>(rt.alloc(), RANGES)
+fn entries_have_lines(rt: HostRuntime) -> Result<(), Fail> {
+    check_table::<Lines>(rt.alloc(), ENTRIES)
 }
 
-/// What is refused, as a range or at a value.
+/// What is refused, for its items, its range, or a value.
 const REFUSED: &str = "\
-3-1 a$ A 1.2.3.$ => no range
-1-3/0 a$ A 1.2.3.$ => no range
-1-3/ a$ A 1.2.3.$ => no range
-1-3/-1 a$ A 1.2.3.$ => no range
--1-3 a$ A 1.2.3.4 => no range
-1 a$ A 1.2.3.4 => no range
-1- a$ A 1.2.3.4 => no range
-2147483647-2147483648 a$ A 1.2.3.4 => no range
-0-16777216 a$ A 1.2.3.4 => no range
-1-2 a${} TXT b => refused
-1-2 a${5 TXT b => refused
-1-2 a${5,} TXT b => refused
-1-2 a${5,3,} TXT b => refused
-1-2 a${5,3,q} TXT b => refused
-1-2 a${5,3,D} TXT b => refused
-1-2 a${5,3,dd} TXT b => refused
-1-2 a${5,3d} TXT b => refused
-1-2 a${5,-3} TXT b => refused
-1-2 a${,3} TXT b => refused
-1-2 a TXT ${0,128,d} => refused
-1-2 a TXT ${2147483646} => refused
-2147483647-2147483647 a TXT ${1} => refused";
+1-2 => BadGenerate
+1-2 h$ => BadGenerate
+1-2 h$ A => BadGenerate
+1-2 h$ 60 IN A => BadGenerate
+1-2 h$ MX 10 m$ => BadGenerate
+1-2 h$ 60 IN 60 A 1.2.3.4 => BadGenerate
+1-2 h$ IN CH A 1.2.3.4 => BadGenerate
+\"1-2\" h$ A 1.2.3.4 => BadGenerate
+1-2 \"h$\" A 1.2.3.4 => BadGenerate
+1-2 h$ \"60\" A 1.2.3.4 => BadGenerate
+1-2 h$ \"A\" 1.2.3.4 => BadGenerate
+3-1 h$ A 1.2.3.4 5 => BadGenerate
+0-2147483647 h$ A => BadGenerate
+3-1 a$ A 1.2.3.$ => BadRange
+1-3/0 a$ A 1.2.3.$ => BadRange
+1-3/ a$ A 1.2.3.$ => BadRange
+1-3/-1 a$ A 1.2.3.$ => BadRange
+1-3x a$ A 1.2.3.$ => BadRange
++1-3 a$ A 1.2.3.$ => BadRange
+-1-3 a$ A 1.2.3.4 => BadRange
+1 a$ A 1.2.3.4 => BadRange
+1- a$ A 1.2.3.4 => BadRange
+2147483647-2147483648 a$ A 1.2.3.4 => BadRange
+0-4294967295 h$ A 192.0.2.1 => BadRange
+0-2147483647 h$ A 192.0.2.1 => TooManyValues
+0-16777216 a$ A 1.2.3.4 => TooManyValues
+1-2 h${1}-$ A 192.0.2.1 => BadTemplate 1
+1-2 a TXT ${-1}$ => BadTemplate 1
+1-2 a${} TXT b => BadTemplate 1
+1-2 a${5 TXT b => BadTemplate 1
+1-2 a${5,} TXT b => BadTemplate 1
+1-2 a${5,3,} TXT b => BadTemplate 1
+1-2 a${5,3,q} TXT b => BadTemplate 1
+1-2 a${5,3,D} TXT b => BadTemplate 1
+1-2 a${5,3,dd} TXT b => BadTemplate 1
+1-2 a${5,3d} TXT b => BadTemplate 1
+1-2 a${5,-3} TXT b => BadTemplate 1
+1-2 a${,3} TXT b => BadTemplate 1
+1-2 a TXT ${0,128,d} => BadTemplate 1
+1-2 a TXT ${2147483647} => BadTemplate 1
+2147483647-2147483647 a TXT ${1} => BadTemplate 2147483647
+1-2 a TXT \"\\\"$\" => BadTemplate 1
+1-2 a TXT \"($\" => BadTemplate 1
+1-2 a TXT \"$)\" => BadTemplate 1
+1-2 a TXT \"\\\\\\\"$\" => BadTemplate 1
+1-2 a\\0$ TXT b => no entry";
 
 #[test]
-fn ranges_are_refused(rt: HostRuntime) -> Result<(), Fail> {
-    check_lines::<Generated>(rt.alloc(), REFUSED)
+fn entries_are_refused(rt: HostRuntime) -> Result<(), Fail> {
+    check_lines::<Lines>(rt.alloc(), REFUSED)
+}
+
+/// Entries that are refused after lines, or for a line feed.
+const LATER: &str = "\
+== 1-3 a TXT ${2147483645}=>a TXT 2147483646
+a TXT 2147483647
+BadTemplate 3\
+== 1-2 a TXT \"$\nb A 1.2.3.4\"=>BadTemplate 1\
+== 1-2 a TXT \"\\\"$\n\\\"\"=>BadTemplate 1\
+== 1-2 a TXT \"($\n)\"=>BadTemplate 1\
+";
+
+#[test]
+fn a_value_is_refused_after_lines(rt: HostRuntime) -> Result<(), Fail> {
+    check_table::<Lines>(rt.alloc(), LATER)
+}
+
+/// The value of a number, or a fault.
+fn value_of(text: &str) -> Result<u64, Fail> {
+    match text.parse::<u32>() {
+        Ok(value) => Ok(u64::from(value) % 2147483648),
+        Err(_) => Err(Fail::from("a value")),
+    }
+}
+
+/// What a template says for a value.
+struct Template;
+
+impl Question for Template {
+    fn answer(alloc: Global, asked: &'static str, out: &mut Vec<u8>) -> Result<(), Fail> {
+        let (template, value) = parted(asked, " ")?;
+        let value = value_of(value)?;
+        let mut expanded = Vec::new(alloc);
+        let done = expand(alloc, value, template.as_bytes(), &mut expanded);
+        push_written(out, &expanded, done)
+    }
+}
+
+/// Templates and values.
+const TEMPLATES: &str = "\
+$ 7 => 7
+${0} 7 => 7
+${0,0,d} 7 => 7
+${5,3} 1 => 006
+${-5,3,d} 1 => -04
+${-5,3,x} 1 => fffffffc
+${20,3,X} 7 => 01B
+${20,0,o} 1 => 25
+${0,0,N} 171 => B.A
+${0,4,n} 171 => b.a.
+${0,5,n} 171 => b.a.0
+${0,7,n} 171 => b.a.0.0
+${-1,0,n} 0 => f.f.f.f.f.f.f.f
+$$a$ 1 => \\$a1
+\\$a$ 1 => \\$a1
+a\\0$ 10 => a\\010
+h$-${1,3} 7 => h7-008
+${1}$ 1 => refused
+${1}$a 1 => refused
+${1}$$ 1 => 2\\$
+a\\ 1 => refused";
+
+#[test]
+fn templates_are_expanded(rt: HostRuntime) -> Result<(), Fail> {
+    check_lines::<Template>(rt.alloc(), TEMPLATES)
 }
 
 /// The number that a modifier makes of a value, or `none` where it is no modifier.
@@ -109,10 +240,7 @@ struct Number;
 impl Question for Number {
     fn answer(alloc: Global, asked: &'static str, out: &mut Vec<u8>) -> Result<(), Fail> {
         let (modifier, value) = parted(asked, " ")?;
-        let Ok(value) = value.parse::<u32>() else {
-            return Err(Fail::from("a value"));
-        };
-        let value = u64::from(value) % 2147483648;
+        let value = value_of(value)?;
         let Some(modifier) = modifier_in(modifier.as_bytes()) else {
             return push_text(out, "none");
         };
@@ -149,18 +277,44 @@ fn modifiers_make_numbers(rt: HostRuntime) -> Result<(), Fail> {
     check_lines::<Number>(rt.alloc(), NUMBERS)
 }
 
-/// One template, and one line of it.
+/// The range of a text, and its faults.
 #[test]
-fn a_template_for_one_value(rt: HostRuntime) -> Result<(), Fail> {
-    let mut expanded = Vec::new(rt.alloc());
-    expand(rt.alloc(), 7, b"h$-${1,3}", &mut expanded).map_err(|_| "a template")?;
-    check_octets("a template", &expanded, b"h7-008")?;
-    let templates = Templates {
-        owner: b"h$",
-        middle: b"60 IN A",
-        rdata: b"192.0.2.$",
+fn ranges_are_read(rt: HostRuntime) -> Result<(), Fail> {
+    let wanted = Range {
+        start: 1,
+        count: 3,
+        step: 4,
     };
-    let mut line = Vec::new(rt.alloc());
-    push_line(rt.alloc(), templates, 9, &mut line).map_err(|_| "a line")?;
-    check_octets("a line", &line, b"h9 60 IN A 192.0.2.9\n")
+    check_same("a range", range_in(b"1-9/4"), Ok(wanted))?;
+    check_same("no range", range_in(b"9-1"), Err(RangeFault::BadRange))?;
+    let many = range_in(b"0-16777216");
+    check_same("many values", many, Err(RangeFault::TooManyValues))?;
+    let most = Range {
+        start: 0,
+        count: 16_777_216,
+        step: 1,
+    };
+    check_same("most values", range_in(b"0-16777215"), Ok(most))
+}
+
+/// A line is appended, and what is refused leaves what was there.
+#[test]
+fn lines_are_appended(rt: HostRuntime) -> Result<(), Fail> {
+    let items = [
+        Item::Bare(b"1-2"),
+        Item::Bare(b"h$"),
+        Item::Bare(b"60"),
+        Item::Bare(b"A"),
+        Item::Bare(b"192.0.2.${2147483646}"),
+    ];
+    let mut generated = Generated::of_items(rt.alloc(), &items).map_err(|_| "an entry")?;
+    let mut out = Vec::new(rt.alloc());
+    out.extend_from_slice(b"; \n")?;
+    let first = generated.next_line(&mut out).map_err(|_| "a line")?;
+    check_same("a value", first, Some(1))?;
+    check_octets("a line", &out, b"; \nh1 60 A 192.0.2.2147483647\n")?;
+    let Err(LineFailing::BadTemplate(2)) = generated.next_line(&mut out) else {
+        return Err(Fail::from("a line that is refused"));
+    };
+    check_octets("the same", &out, b"; \nh1 60 A 192.0.2.2147483647\n")
 }
