@@ -1,2 +1,5 @@
+mod HaveChanges
 mod OneDifference
+mod OneList
 mod Steps
+mod Written

@@ -35,6 +35,9 @@ by_order r s Equal e = by_class r s (exact_canonical r s e) (number_choice r.cla
 by_order r s Less e = inr (λ same. let bad : Less ≡ Equal = sym e ∙ ap (canonical_cmp r) (sym same) ∙ tied_itself canonical_total r in cc bad)
 by_order r s Greater e = inr (λ same. let bad : Greater ≡ Equal = sym e ∙ ap (canonical_cmp r) (sym same) ∙ tied_itself canonical_total r in cc bad)
 
+pub same_or_not : (r s : Record) → (r ≡ s) ⊎ (r ≡ s → ⊥)
+same_or_not r s = by_order r s (canonical_cmp r s) refl
+
 after_first : (s : Record) (records : List Record) (r : Record) → Choice (r ≡ s) → Choice (Has records r) → Choice (Has (s ∷ records) r)
 after_first s records r (inl same) more = inl (inl same)
 after_first s records r (inr other) (inl has) = inl (inr has)

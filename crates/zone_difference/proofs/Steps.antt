@@ -1,15 +1,16 @@
 -- The steps of a walk over two ascending lists.
-use Rattle.zone_set.proofs.Common.{◌≡◌, ◌≢◌, Equal, Greater, Less, List, [], ◌∷◌, ◌++◌, refl, sym, ap, ◌∙◌, append_assoc, append-nil, subst, inl, inr, ⊎_elim, AllByRecursion, ordering_reverse, tied_itself, Has, Record, ℕ}
+use Rattle.zone_set.proofs.Common.{◌≡◌, ◌≢◌, Equal, Greater, Less, List, [], ◌∷◌, ◌++◌, refl, sym, ap, ◌∙◌, append_assoc, append-nil, subst, inl, inr, ⊎_elim, AllByRecursion, ordering_reverse, tied_itself, Has, IsZone, Record, ℕ}
 use Rattle.zone_set.proofs.Holding.Together.{each_Has, each_from_Has}
 use Rattle.zone_set.proofs.Ordering.SetOrder.{canonical_total}
 use Rattle.zone_set.specs.Order.{Ascends, canonical_cmp}
-use Rattle.zone_difference.specs.Difference.{AreOnlyIn, Changes, IsDifference, TellsDifference, and_changes}
-use Rattle.zone_difference.specs.Walk.{Walks}
+use Rattle.zone_set.specs.Zone.{Zone}
+use Rattle.zone_difference.specs.Difference.{AreChanges, AreOnlyIn, Change, GoesBefore, IsDifference, addition, added_of, removal, removed_of}
+use Rattle.zone_difference.specs.Walk.{AreSides}
 
-abbrev Before : Record → List Record → Type 0
+abbrev pub Before : Record → List Record → Type 0
 Before r records = AllByRecursion (λ s. canonical_cmp r s ≡ Less) records
 
-turn : (a b x y : List Record) → IsDifference a b x y → IsDifference b a y x
+pub turn : (a b x y : List Record) → IsDifference a b x y → IsDifference b a y x
 turn a b x y d = record { gone = d.come; come = d.gone }
 
 not_after : (r s : Record) (records : List Record) → Before s records → (canonical_cmp s r ≡ Less → ⊥) → Has records r → ⊥
@@ -83,86 +84,166 @@ greater_step r s l o x y greater before before' d =
     let less : canonical_cmp s r ≡ Less = canonical_total.antisymm s r ∙ ap ordering_reverse greater in
     turn (s ∷ o) (r ∷ l) (s ∷ y) x (less_step s r o l y x less before' before (turn (r ∷ l) o x y d))
 
--- ---- the walk
+-- ---- a change before all others
 
-no_more : (now : Changes) → and_changes now [] [] ≡ now
-no_more now = λ i. record { removed = append-nil now.removed i; added = append-nil now.added i }
+all_before : (c : Change) (more : List Change) → ((s : Record) → Has (removed_of more) s → GoesBefore c (removal s)) → ((s : Record) → Has (added_of more) s → GoesBefore c (addition s)) → AllByRecursion (GoesBefore c) more
+all_before c [] gone come = tt
+all_before c (removal r ∷ more) gone come = (gone r (inl refl), all_before c more (λ s has. gone s (inr has)) come)
+all_before c (addition r ∷ more) gone come = (come r (inl refl), all_before c more gone (λ s has. come s (inr has)))
 
-told_more : (old : Changes) (a b c d : List Record) → and_changes (and_changes old a b) c d ≡ and_changes old (a ++ c) (b ++ d)
-told_more old a b c d = λ i. record { removed = append_assoc old.removed a c i; added = append_assoc old.added b d i }
+before_changes : (c : Change) (l o : List Record) (more : List Change) → AreChanges l o more → ((s : Record) → Has l s → GoesBefore c (removal s)) → ((s : Record) → Has o s → GoesBefore c (addition s)) → AllByRecursion (GoesBefore c) more
+before_changes c l o more are gone come =
+    all_before c more (λ s has. gone s ((are.difference.gone.are s).0 has).0) (λ s has. come s ((are.difference.come.are s).0 has).0)
 
-pub begins : (class : ℕ) (records others left right : List Record) (told : Changes) → left ≡ records → right ≡ others → Ascends records → Ascends others
-    → AllByRecursion (λ (r : Record). r.class ≡ class) records → AllByRecursion (λ (r : Record). r.class ≡ class) others → Walks class records others left right told told
-begins class records others left right told same same' up up' of of' = record {
-  up = subst Ascends (sym same) up;
-  up_right = subst Ascends (sym same') up';
-  of_class = subst (AllByRecursion (λ (r : Record). r.class ≡ class)) (sym same) of;
-  of_class_right = subst (AllByRecursion (λ (r : Record). r.class ≡ class)) (sym same') of';
-  ends = λ x y d. (x, y, subst (λ l. IsDifference l others x y) same (subst (λ o. IsDifference left o x y) same' d), refl);
+of_first : (r : Record) (records : List Record) → Before r records → (s : Record) → Has records s → canonical_cmp r s ≡ Less
+of_first r records before s has = each_Has (λ t. canonical_cmp r t ≡ Less) records s before has
+
+-- what goes before the first of records goes before all of them
+past_first : (r s : Record) (records : List Record) → canonical_cmp r s ≡ Less → Before s records → (t : Record) → Has (s ∷ records) t → canonical_cmp r t ≡ Less
+past_first r s records less before t (inl same) = ap (canonical_cmp r) same ∙ less
+past_first r s records less before t (inr has) = canonical_total.trans r s t less (of_first s records before t has)
+
+-- and what is at its place goes before those behind it
+past_tied : (r s : Record) (records : List Record) → canonical_cmp r s ≡ Equal → Before s records → (t : Record) → Has records t → canonical_cmp r t ≡ Less
+past_tied r s records tied before t has = canonical_total.congr r s t tied ∙ of_first s records before t has
+
+turned_less : (r s : Record) → canonical_cmp r s ≡ Greater → canonical_cmp s r ≡ Less
+turned_less r s greater = canonical_total.antisymm s r ∙ ap ordering_reverse greater
+
+turned_tied : (r s : Record) → canonical_cmp r s ≡ Equal → canonical_cmp s r ≡ Equal
+turned_tied r s tied = canonical_total.antisymm s r ∙ ap ordering_reverse tied
+
+-- ---- the changes of longer lists
+
+pub goes_alone : (r : Record) (l : List Record) (more : List Change) → Before r l → AreChanges l [] more → AreChanges (r ∷ l) [] (removal r ∷ more)
+goes_alone r l more before are = record {
+  difference = removed_step r l [] (removed_of more) (added_of more) before (λ has. has) are.difference;
+  order = (before_changes (removal r) l [] more are (of_first r l before) (λ s has. absurd has), are.order);
 }
 
-nothing : IsDifference [] [] [] []
+pub comes_alone : (s : Record) (o : List Record) (more : List Change) → Before s o → AreChanges [] o more → AreChanges [] (s ∷ o) (addition s ∷ more)
+comes_alone s o more before are = record {
+  difference = added_step s [] o (removed_of more) (added_of more) before (λ has. has) are.difference;
+  order = (before_changes (addition s) [] o more are (λ t has. absurd has) (of_first s o before), are.order);
+}
+
+pub goes_first : (r s : Record) (l o : List Record) (more : List Change) → canonical_cmp r s ≡ Less → Before r l → Before s o → AreChanges l (s ∷ o) more → AreChanges (r ∷ l) (s ∷ o) (removal r ∷ more)
+goes_first r s l o more less before before' are = record {
+  difference = less_step r s l o (removed_of more) (added_of more) less before before' are.difference;
+  order = (before_changes (removal r) l (s ∷ o) more are (of_first r l before) (λ t has. inl (past_first r s o less before' t has)), are.order);
+}
+
+pub comes_first : (r s : Record) (l o : List Record) (more : List Change) → canonical_cmp r s ≡ Greater → Before r l → Before s o → AreChanges (r ∷ l) o more → AreChanges (r ∷ l) (s ∷ o) (addition s ∷ more)
+comes_first r s l o more greater before before' are = record {
+  difference = greater_step r s l o (removed_of more) (added_of more) greater before before' are.difference;
+  order = (before_changes (addition s) (r ∷ l) o more are (past_first s r l (turned_less r s greater) before) (of_first s o before'), are.order);
+}
+
+pub changes_at : (r s : Record) (l o : List Record) (more : List Change) → canonical_cmp r s ≡ Equal → r ≢ s → Before r l → Before s o → AreChanges l o more → AreChanges (r ∷ l) (s ∷ o) (removal r ∷ addition s ∷ more)
+changes_at r s l o more tied other before before' are = record {
+  difference = changed_step r s l o (removed_of more) (added_of more) tied other before before' are.difference;
+  order = (
+    (inr tied, before_changes (removal r) l o more are (of_first r l before) (λ t has. inl (past_tied r s o tied before' t has))),
+    (before_changes (addition s) l o more are (past_tied s r l (turned_tied r s tied) before) (of_first s o before'), are.order),
+  );
+}
+
+pub stays_at : (r s : Record) (l o : List Record) (more : List Change) → r ≡ s → Before r l → Before s o → AreChanges l o more → AreChanges (r ∷ l) (s ∷ o) more
+stays_at r s l o more same before before' are = record {
+  difference = both_step r s l o (removed_of more) (added_of more) same before before' are.difference;
+  order = are.order;
+}
+
+-- ---- one step on
+
+goes_tied : (r s : Record) (l o : List Record) (more : List Change) → canonical_cmp r s ≡ Equal → r ≢ s → Before r l → Before s o → AreChanges l (s ∷ o) more → AreChanges (r ∷ l) (s ∷ o) (removal r ∷ more)
+goes_tied r s l o more tied other before before' are = record {
+  difference = removed_step r l (s ∷ o) (removed_of more) (added_of more) before (λ has. ⊎_elim other (not_after r s o before' (tied_not_less r s (turned_tied r s tied))) has) are.difference;
+  order = (before_changes (removal r) l (s ∷ o) more are (of_first r l before) at_or_after, are.order);
+}
+  where
+    at_or_after : (t : Record) → Has (s ∷ o) t → GoesBefore (removal r) (addition t)
+    at_or_after t (inl same) = inr (ap (canonical_cmp r) same ∙ tied)
+    at_or_after t (inr has) = inl (past_tied r s o tied before' t has)
+
+pub nothing : AreChanges [] [] []
 nothing = record {
-  gone = record { ascend = tt; are = λ r. (λ h. absurd h, λ h. h.0) };
-  come = record { ascend = tt; are = λ r. (λ h. absurd h, λ h. h.0) };
+  difference = record {
+    gone = record { ascend = tt; are = λ r. (λ h. absurd h, λ h. h.0) };
+    come = record { ascend = tt; are = λ r. (λ h. absurd h, λ h. h.0) };
+  };
+  order = tt;
 }
 
-pub ended : (class : ℕ) (records others : List Record) (old now : Changes) → Walks class records others [] [] old now → TellsDifference records others old now
-ended class records others old now w =
-    let (x, y, d, same) = w.ends [] [] nothing in
-    record { removed = x; added = y; is = d; told = sym (no_more now) ∙ sym same }
-
-pub steps : (class : ℕ) (records others left right : List Record) (old now : Changes) → Walks class records others left right old now
-    → (left' right' : List Record) (now' : Changes) (rs ss : List Record) → Ascends left' → Ascends right'
-    → AllByRecursion (λ (r : Record). r.class ≡ class) left' → AllByRecursion (λ (r : Record). r.class ≡ class) right'
-    → now' ≡ and_changes now rs ss
-    → ((x y : List Record) → IsDifference left' right' x y → IsDifference left right (rs ++ x) (ss ++ y))
-    → Walks class records others left' right' old now'
-steps class records others left right old now w left' right' now' rs ss up up' of of' told grows = record {
-  up = up;
-  up_right = up';
-  of_class = of;
-  of_class_right = of';
-  ends = λ x y d. let (a, b, is, same) = w.ends (rs ++ x) (ss ++ y) (grows x y d) in
-      (a, b, is, same ∙ sym (told_more now rs ss x y) ∙ ap (λ t. and_changes t x y) (sym told));
+-- the sides without the first of the left ones
+pub left_on : (r : Record) (l o left : List Record) → AreSides (r ∷ l) o → left ≡ l → AreSides left o
+left_on r l o left sides same = record {
+  class = sides.class;
+  up = subst Ascends (sym same) sides.up.1;
+  up_right = sides.up_right;
+  of_class = subst (AllByRecursion (λ (t : Record). t.class ≡ sides.class)) (sym same) sides.of_class.1;
+  of_class_right = sides.of_class_right;
 }
 
--- the six steps
-module _ (class : ℕ) (records others : List Record) (old now now' : Changes) (r s : Record) (l o left right : List Record) where
-  pub goes_last : Walks class records others (r ∷ l) [] old now → left ≡ l → now' ≡ and_changes now (r ∷ []) [] → Walks class records others left [] old now'
-  goes_last w same told =
-      steps class records others (r ∷ l) [] old now w left [] now' (r ∷ []) [] (subst Ascends (sym same) w.up.1) tt (subst (AllByRecursion (λ (t : Record). t.class ≡ class)) (sym same) w.of_class.1) tt told
-      (λ x y d. removed_step r l [] x y w.up.0 (λ has. has) (subst (λ k. IsDifference k [] x y) same d))
+pub right_on : (s : Record) (l o right : List Record) → AreSides l (s ∷ o) → right ≡ o → AreSides l right
+right_on s l o right sides same = record {
+  class = sides.class;
+  up = sides.up;
+  up_right = subst Ascends (sym same) sides.up_right.1;
+  of_class = sides.of_class;
+  of_class_right = subst (AllByRecursion (λ (t : Record). t.class ≡ sides.class)) (sym same) sides.of_class_right.1;
+}
 
-  pub comes_last : Walks class records others [] (s ∷ o) old now → right ≡ o → now' ≡ and_changes now [] (s ∷ []) → Walks class records others [] right old now'
-  comes_last w same told =
-      steps class records others [] (s ∷ o) old now w [] right now' [] (s ∷ []) tt (subst Ascends (sym same) w.up_right.1) tt (subst (AllByRecursion (λ (t : Record). t.class ≡ class)) (sym same) w.of_class_right.1) told
-      (λ x y d. added_step s [] o x y w.up_right.0 (λ has. has) (subst (λ k. IsDifference [] k x y) same d))
+-- changes of shorter lists are changes of longer ones, and the first of those is this one
+abbrev pub Leads : Change → List Record → List Record → List Record → List Record → Type 0
+Leads c l o left right = (more : List Change) → AreChanges left right more → AreChanges l o (c ∷ more)
 
-  pub goes : Walks class records others (r ∷ l) (s ∷ o) old now → canonical_cmp r s ≡ Less → left ≡ l → now' ≡ and_changes now (r ∷ []) [] → Walks class records others left (s ∷ o) old now'
-  goes w less same told =
-      steps class records others (r ∷ l) (s ∷ o) old now w left (s ∷ o) now' (r ∷ []) [] (subst Ascends (sym same) w.up.1) w.up_right (subst (AllByRecursion (λ (t : Record). t.class ≡ class)) (sym same) w.of_class.1) w.of_class_right told
-      (λ x y d. less_step r s l o x y less w.up.0 w.up_right.0 (subst (λ k. IsDifference k (s ∷ o) x y) same d))
+pub goes_last : (r : Record) (l left : List Record) → AreSides (r ∷ l) [] → left ≡ l → Leads (removal r) (r ∷ l) [] left []
+goes_last r l left sides same more are = goes_alone r l more sides.up.0 (subst (λ k. AreChanges k [] more) same are)
 
-  pub comes : Walks class records others (r ∷ l) (s ∷ o) old now → canonical_cmp r s ≡ Greater → right ≡ o → now' ≡ and_changes now [] (s ∷ []) → Walks class records others (r ∷ l) right old now'
-  comes w greater same told =
-      steps class records others (r ∷ l) (s ∷ o) old now w (r ∷ l) right now' [] (s ∷ []) w.up (subst Ascends (sym same) w.up_right.1) w.of_class (subst (AllByRecursion (λ (t : Record). t.class ≡ class)) (sym same) w.of_class_right.1) told
-      (λ x y d. greater_step r s l o x y greater w.up.0 w.up_right.0 (subst (λ k. IsDifference (r ∷ l) k x y) same d))
+pub comes_last : (s : Record) (o right : List Record) → AreSides [] (s ∷ o) → right ≡ o → Leads (addition s) [] (s ∷ o) [] right
+comes_last s o right sides same more are = comes_alone s o more sides.up_right.0 (subst (λ k. AreChanges [] k more) same are)
 
-  both_on : Walks class records others (r ∷ l) (s ∷ o) old now → left ≡ l → right ≡ o → (rs ss : List Record) → now' ≡ and_changes now rs ss
-      → ((x y : List Record) → IsDifference l o x y → IsDifference (r ∷ l) (s ∷ o) (rs ++ x) (ss ++ y)) → Walks class records others left right old now'
-  both_on w same same' rs ss told grows =
-      steps class records others (r ∷ l) (s ∷ o) old now w left right now' rs ss (subst Ascends (sym same) w.up.1) (subst Ascends (sym same') w.up_right.1)
-      (subst (AllByRecursion (λ (t : Record). t.class ≡ class)) (sym same) w.of_class.1) (subst (AllByRecursion (λ (t : Record). t.class ≡ class)) (sym same') w.of_class_right.1) told
-      (λ x y d. grows x y (subst (λ k. IsDifference k o x y) same (subst (λ k. IsDifference left k x y) same' d)))
+pub goes : (r s : Record) (l o left : List Record) → AreSides (r ∷ l) (s ∷ o) → canonical_cmp r s ≡ Less → left ≡ l → Leads (removal r) (r ∷ l) (s ∷ o) left (s ∷ o)
+goes r s l o left sides less same more are = goes_first r s l o more less sides.up.0 sides.up_right.0 (subst (λ k. AreChanges k (s ∷ o) more) same are)
 
-  pub stays : Walks class records others (r ∷ l) (s ∷ o) old now → r ≡ s → left ≡ l → right ≡ o → now' ≡ now → Walks class records others left right old now'
-  stays w one same same' told =
-      both_on w same same' [] [] (told ∙ sym (no_more now))
-      (λ x y d. both_step r s l o x y one w.up.0 w.up_right.0 d)
+pub comes : (r s : Record) (l o right : List Record) → AreSides (r ∷ l) (s ∷ o) → canonical_cmp r s ≡ Greater → right ≡ o → Leads (addition s) (r ∷ l) (s ∷ o) (r ∷ l) right
+comes r s l o right sides greater same more are = comes_first r s l o more greater sides.up.0 sides.up_right.0 (subst (λ k. AreChanges (r ∷ l) k more) same are)
 
-  pub changes : Walks class records others (r ∷ l) (s ∷ o) old now → canonical_cmp r s ≡ Equal → r ≢ s → left ≡ l → right ≡ o
-      → (between : Changes) → between ≡ and_changes now (r ∷ []) [] → now' ≡ and_changes between [] (s ∷ []) → Walks class records others left right old now'
-  changes w tied other same same' between first second =
-      both_on w same same' (r ∷ []) (s ∷ []) (second ∙ ap (λ t. and_changes t [] (s ∷ [])) first ∙ told_more now (r ∷ []) [] [] (s ∷ []))
-      (λ x y d. changed_step r s l o x y tied other w.up.0 w.up_right.0 d)
+pub goes_at : (r s : Record) (l o left : List Record) → AreSides (r ∷ l) (s ∷ o) → canonical_cmp r s ≡ Equal → r ≢ s → left ≡ l → Leads (removal r) (r ∷ l) (s ∷ o) left (s ∷ o)
+goes_at r s l o left sides tied other same more are = goes_tied r s l o more tied other sides.up.0 sides.up_right.0 (subst (λ k. AreChanges k (s ∷ o) more) same are)
+
+pub stays : (r s : Record) (l o left right : List Record) → AreSides (r ∷ l) (s ∷ o) → r ≡ s → left ≡ l → right ≡ o → (more : List Change) → AreChanges left right more → AreChanges (r ∷ l) (s ∷ o) more
+stays r s l o left right sides one same same' more are = stays_at r s l o more one sides.up.0 sides.up_right.0 (subst (λ k. AreChanges k o more) same (subst (λ k. AreChanges left k more) same' are))
+
+-- all records of two zones of one class
+pub sides_of_zones : (z w : Zone) (left right : List Record) → IsZone z → IsZone w → z.class ≡ w.class → left ≡ z.records → right ≡ w.records → AreSides left right
+sides_of_zones z w left right is too class same same' = record {
+  class = z.class;
+  up = subst Ascends (sym same) is.compatible.ascend;
+  up_right = subst Ascends (sym same') too.compatible.ascend;
+  of_class = subst (AllByRecursion (λ (r : Record). r.class ≡ z.class)) (sym same) is.class;
+  of_class_right = subst (AllByRecursion (λ (r : Record). r.class ≡ z.class)) (sym same') (subst (λ n. AllByRecursion (λ (r : Record). r.class ≡ n) w.records) (sym class) too.class);
+}
+
+-- ---- what is left, where it is known
+
+abbrev pub Ends : List Record → List Record → List Record → List Record → Type 0
+Ends left right records others = (more : List Change) → AreChanges left right more → AreChanges records others more
+
+pub sides_are : (left right l o : List Record) → left ≡ l → right ≡ o → AreSides left right → AreSides l o
+sides_are left right l o same same' sides = subst (λ k. AreSides k o) same (subst (λ k. AreSides left k) same' sides)
+
+-- a change of what is left is one of all
+pub emit : (left right l o records others left' right' l' o' : List Record) (c : Change) → Ends left right records others → left ≡ l → right ≡ o → left' ≡ l' → right' ≡ o' → Leads c l o l' o' → Leads c records others left' right'
+emit left right l o records others left' right' l' o' c ends e e' f f' leads more are =
+    let before : AreChanges l' o' more = subst (λ k. AreChanges k o' more) f (subst (λ k. AreChanges left' k more) f' are) in
+    ends (c ∷ more) (subst (λ k. AreChanges k right (c ∷ more)) (sym e) (subst (λ k. AreChanges l k (c ∷ more)) (sym e') (leads more before)))
+
+-- what is left and has the same changes
+pub keep : (left right l o records others left' right' : List Record) → Ends left right records others → left ≡ l → right ≡ o → ((more : List Change) → AreChanges left' right' more → AreChanges l o more) → Ends left' right' records others
+keep left right l o records others left' right' ends e e' same more are =
+    ends more (subst (λ k. AreChanges k right more) (sym e) (subst (λ k. AreChanges l k more) (sym e') (same more are)))
+
+pub at_end : (left right records others : List Record) → Ends left right records others → left ≡ [] → right ≡ [] → AreChanges records others []
+at_end left right records others ends e e' = ends [] (subst (λ k. AreChanges k right []) (sym e) (subst (λ k. AreChanges [] k []) (sym e') nothing))

@@ -1,7 +1,9 @@
 -- The difference of two zones: the records that go and those that come (RFC 1995 4).
-use Rattle.std.specs.Prelude.{◌≡◌, ◌↔◌, ◌⊎◌, List, ◌++◌}
+use Rattle.std.specs.Prelude.{◌≡◌, ◌↔◌, ◌⊎◌, List, [], ◌∷◌, ⊤}
+use Rattle.std.specs.List.{AllByRecursion}
+use Rattle.std.specs.declared.cmp.Ordering.TheVariants.{Equal, Less}
 use Rattle.zone_rdata.specs.Record.{Record}
-use Rattle.zone_set.specs.Order.{Ascends}
+use Rattle.zone_set.specs.Order.{Ascends, canonical_cmp}
 use Rattle.zone_set.specs.Zone.{Has}
 
 -- the records of one list that the other lacks, in canonical order
@@ -19,18 +21,35 @@ abbrev pub IsPatched : List Record → List Record → List Record → List Reco
 IsPatched records removed added patched = (r : Record)
     → Has patched r ↔ ((Has records r × (Has removed r → ⊥)) ⊎ Has added r)
 
--- what a sink of changes was told
-pub record Changes : Type 0 where
-  pub removed : List Record
-  pub added : List Record
+-- a change from one zone to another: a record that goes, or one that comes
+pub data Change : Type 0 where
+  removal : Record → Change
+  addition : Record → Change
 
-abbrev pub and_changes : Changes → List Record → List Record → Changes
-and_changes told removed added =
-    record { removed = told.removed ++ removed; added = told.added ++ added }
+abbrev pub removed_of : List Change → List Record
+removed_of [] = []
+removed_of (removal r ∷ changes) = r ∷ removed_of changes
+removed_of (addition r ∷ changes) = removed_of changes
 
--- it was told the difference
-pub record TellsDifference (records others : List Record) (old new : Changes) : Type 0 where
-  pub removed : List Record
-  pub added : List Record
-  pub is : IsDifference records others removed added
-  pub told : new ≡ and_changes old removed added
+abbrev pub added_of : List Change → List Record
+added_of [] = []
+added_of (removal r ∷ changes) = added_of changes
+added_of (addition r ∷ changes) = r ∷ added_of changes
+
+-- a change comes before another in canonical order; of two at one place, as records that differ in
+-- their TTL are, the removal does
+abbrev pub GoesBefore : Change → Change → Type 0
+GoesBefore (removal r) (removal s) = canonical_cmp r s ≡ Less
+GoesBefore (removal r) (addition s) = (canonical_cmp r s ≡ Less) ⊎ (canonical_cmp r s ≡ Equal)
+GoesBefore (addition r) (removal s) = canonical_cmp r s ≡ Less
+GoesBefore (addition r) (addition s) = canonical_cmp r s ≡ Less
+
+-- each change before all that follow it
+abbrev pub AreInOrder : List Change → Type 0
+AreInOrder [] = ⊤
+AreInOrder (c ∷ changes) = AllByRecursion (GoesBefore c) changes × AreInOrder changes
+
+-- the changes from the first records to the second, in order
+pub record AreChanges (records others : List Record) (changes : List Change) : Type 0 where
+  pub difference : IsDifference records others (removed_of changes) (added_of changes)
+  pub order : AreInOrder changes

@@ -1,7 +1,8 @@
-//! The difference of two zones, told record by record in canonical order.
+//! The difference of two zones: the records that go and those that come, in canonical order.
 #![tactic(auto)]
 
 pub mod laws;
-mod walk;
+mod next_change;
+mod write;
 
-pub use walk::{ChangeSink, tell_difference};
+pub use write::write_difference;

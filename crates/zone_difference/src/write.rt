@@ -1,0 +1,64 @@
+ghost use Rattle.std.specs.Prelude.{◌≡◌, ◌++◌, IfErr, OnErr, OnOk};
+ghost use Rattle.zone_print.specs.Device.{WorksOn};
+ghost use Rattle.zone_difference.specs.Text.{IsWriteStop, WritesChanges, WritesPart, change_line};
+ghost use Rattle.zone_difference.specs.Walk.{change_of};
+
+use crate::next_change::{ChangeRef, Sides};
+use std::alloc::{AllocError, Global};
+use zone_print::{OctetWriter, push_line, write_octets};
+use zone_rdata::Stop;
+use zone_set::Zone;
+
+/// How many octets of lines are gathered before they are written.
+const WRITE_LEN: usize = 65_536;
+
+/// Appends the line of a change.
+fn push_change(change: &ChangeRef<'_>, out: &mut Vec<u8>) -> Result<(), AllocError>
+    ensures { OnOk result (out.new.items ≡ out.old.items ++ change_line (change_of change.now)) }
+{
+    match change {
+        ChangeRef::Removal(rr) => {
+            out.extend_from_slice(b"- ")?;
+            push_line(out, rr)
+        }
+        ChangeRef::Addition(rr) => {
+            out.extend_from_slice(b"+ ")?;
+            push_line(out, rr)
+        }
+    }
+}
+
+/// Writes the changes from one zone to another of its class, each as `- ` or `+ ` and the line of
+/// the record in the canonical text: the records of the first alone are removed, and those of the
+/// second alone are added, in canonical order. Of two at one place, as records that differ in their
+/// TTL are, the removal comes first. Nothing is written for one zone. It keeps some 64 KiB of lines,
+/// and doesn't flush the writer.
+///
+/// # Errors
+///
+/// `Write` where the writer failed, and `Memory`. A proper prefix of the text was written then.
+pub fn write_difference<W: OctetWriter>(
+    alloc: Global,
+    zone: &Zone,
+    other: &Zone,
+    writer: &mut W,
+) -> Result<(), Stop>
+    requires { zone.now.class ≡ other.now.class }
+    ensures text { OnOk result (WritesChanges zone.now.records other.now.records
+        (W.state writer.old).octets (W.state writer.new).octets) }
+    ensures part { OnErr result (WritesPart zone.now.records other.now.records
+        (W.state writer.old).octets (W.state writer.new).octets) }
+    ensures works { OnOk result (WorksOn (W.state writer.old) (W.state writer.new)) }
+    ensures stopped { IfErr result (IsWriteStop (W.state writer.old) (W.state writer.new)) }
+{
+    let mut sides = Sides::of_zones(zone, other);
+    let mut lines = Vec::new(alloc);
+    'walk: while let Some(change) = sides.next_change() {
+        push_change(&change, &mut lines)?;
+        if lines.len() >= WRITE_LEN {
+            write_octets(writer, &lines)?;
+            lines.clear();
+        }
+    }
+    write_octets(writer, &lines)
+}
