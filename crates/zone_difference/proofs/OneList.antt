@@ -17,8 +17,7 @@ no_changes (addition r ∷ changes) gone come = absurd cc
 
 pub none_of_one_zone : (z w : Zone) (changes : List Change) → IsZone z → IsZone w → AreChanges z.records w.records changes → (changes ≡ []) ↔ (z ≡ w)
 none_of_one_zone z w changes is too are =
-    let both = none_if_one z w (removed_of changes) (added_of changes) is too are.difference in
-    (
+    let both = none_if_one z w (removed_of changes) (added_of changes) is too are.difference in (
       λ none. both.0 (ap removed_of none, ap added_of none),
       λ same. let empty = both.1 same in no_changes changes empty.0 empty.1,
     )

@@ -88,6 +88,9 @@ module _ (records others left right : List Record) (old now : Option (List ℕ))
 pub begins : (records others left right : List Record) (old : Option (List ℕ)) (lines : List ℕ) → left ≡ records → right ≡ others → AreSides left right → lines ≡ [] → ToWrite records others left right old old lines
 begins records others left right old lines same same' sides none = record {
   sides = sides;
-  ends = λ more are. (more, subst (λ l. AreChanges l others more) same (subst (λ o. AreChanges left o more) same' are),
-      record { front = []; split = sym (ap (λ t. t ++ changes_text more) none); taken = Appends-nil old });
+  ends = λ more are. (
+    more,
+    subst (λ l. AreChanges l others more) same (subst (λ o. AreChanges left o more) same' are),
+    record { front = []; split = sym (ap (λ t. t ++ changes_text more) none); taken = Appends-nil old },
+  );
 }
