@@ -1,17 +1,18 @@
 -- The items of a `$GENERATE` entry.
-use Rattle.std.proofs.Common.{◌≡◌, ◌≢◌, ℕ, suc, ◌+◌, ◌-◌, ◌<◌, ◌≤◌, List, [], ◌∷◌, ◌++◌, length, map, take, get_or, refl, sym, ap, subst, arith, append_assoc, ◌∙◌, Option, Some, None, Bool, true, false, Result, Ok, Err}
+use Rattle.std.proofs.Common.{◌≡◌, ◌≢◌, ℕ, suc, ◌+◌, ◌-◌, ◌<◌, ◌≤◌, List, [], ◌∷◌, ◌++◌, length, map, take, get_or, refl, sym, ap, subst, arith, append_assoc, ◌∙◌, Option, Some, None, Bool, true, false, Err}
 use Rattle.std.proofs.lemmas.Grind.{common_steps}
 use Rattle.std.proofs.Math.Seq.{take-append_seam}
 use Rattle.std.proofs.lemmas.List.{append-nil, length-append, length-map, take-map}
 use Rattle.std.specs.List.{flat_map}
 use Rattle.std.specs.Prelude.{is_some}
 use Rattle.zone_rdata.specs.Item.{RawItem, bare, quoted}
-use Rattle.zone_text.proofs.Heads.WordsLeft.{class_joined, next_part, parts_by, ttl_joined}
-use Rattle.zone_text.specs.Statements.{Parts, Word, ttl, class, ttl_among, class_among, parts_after, word_after, is_class_word, begins_with_digit, unless_stated}
+use Rattle.zone_text.proofs.Heads.WordsLeft.{class_joined, next_part, ttl_joined}
+use Rattle.zone_text.specs.Statements.{Parts, Word, ttl_among, class_among, parts_after, word_after}
 use Rattle.zone_rdata.specs.Item.{raw}
 use Rattle.zone_rdata.specs.declared.item.Item.{Item}
-use Rattle.zone_generate.specs.Entry.{Generation, Stated, generation_by, generation_in, stated_in, template_in, with_type, word_and_blank}
+use Rattle.zone_generate.specs.Entry.{Stated, generation_by, generation_in, stated_in, template_in, with_type, word_and_blank}
 use Rattle.zone_generate.specs.Machine.{item_and_blank}
+use Rattle.zone_generate.specs.declared.failing.GenerateFault.TheVariants.{BadGenerate}
 
 -- ---- items that are parts
 
@@ -75,26 +76,33 @@ at_most_two words few = two (is_some (ttl_among words)) (is_some (class_among wo
     two false true n le = omega arith
     two false false n le = omega arith
 
-type_and_data : (range owner : List ℕ) (words : List Word) (rest : List RawItem) (g : Generation) → generation_by (with_type range owner words rest) ≡ Ok g → length rest ≡ 2
-type_and_data range owner words (bare kind ∷ item ∷ []) g e = refl
-type_and_data range owner words [] g e = absurd cc
-type_and_data range owner words (quoted text ∷ rest) g e = absurd cc
-type_and_data range owner words (bare kind ∷ []) g e = absurd cc
-type_and_data range owner words (bare kind ∷ item ∷ other ∷ rest) g e = absurd cc
+type_and_data : (range owner : List ℕ) (words : List Word) (rest : List RawItem) (stated : Stated) → with_type range owner words rest ≡ Some stated → length rest ≡ 2
+type_and_data range owner words (bare kind ∷ item ∷ []) stated e = refl
+type_and_data range owner words [] stated e = absurd cc
+type_and_data range owner words (quoted text ∷ rest) stated e = absurd cc
+type_and_data range owner words (bare kind ∷ []) stated e = absurd cc
+type_and_data range owner words (bare kind ∷ item ∷ other ∷ rest) stated e = absurd cc
 
-pub few_items : (items : List RawItem) (g : Generation) → generation_in items ≡ Ok g → length items < 7
-few_items [] g e = absurd cc
-few_items (quoted range ∷ items) g e = absurd cc
-few_items (bare range ∷ []) g e = absurd cc
-few_items (bare range ∷ quoted owner ∷ items) g e = absurd cc
-few_items (bare range ∷ bare owner ∷ items) g e =
+few_items : (items : List RawItem) (stated : Stated) → stated_in items ≡ Some stated → length items < 7
+few_items [] stated e = absurd cc
+few_items (quoted range ∷ items) stated e = absurd cc
+few_items (bare range ∷ []) stated e = absurd cc
+few_items (bare range ∷ quoted owner ∷ items) stated e = absurd cc
+few_items (bare range ∷ bare owner ∷ items) stated e =
     let parts = parts_after [] items in
     let found = are_part items [] in
-    let two : length parts.rest ≡ 2 = type_and_data range owner parts.words parts.rest g e in
+    let two : length parts.rest ≡ 2 = type_and_data range owner parts.words parts.rest stated e in
     let few : length parts.words ≤ 2 = at_most_two parts.words (few_words items [] (omega arith)) in
     let all : length items ≡ length found.front + length parts.rest = ap length found.items_are ∙ length-append found.front parts.rest in
     let same : length found.front ≡ length parts.words = found.count ∙ ap length (sym found.words_are) in
     omega (arith, two, few, all, same)
+
+pub many_items : (items : List RawItem) → 7 ≤ length items → generation_in items ≡ Err BadGenerate
+many_items items many = by (stated_in items) refl
+  where
+    by : (o : Option Stated) → stated_in items ≡ o → generation_in items ≡ Err BadGenerate
+    by None e = ap generation_by e
+    by (Some stated) e = absurd (omega (arith, few_items items stated e, many))
 
 -- ---- the items between the owner and the type
 

@@ -1,5 +1,5 @@
 -- Octets that are one entry of one line.
-use Rattle.zone_text.proofs.Common.{AreTokens, Cut, Cuts, EndInLineFeed, Fault, IsBrokenOff, IsFirstEntry, IsOneEntry, IsOpen, List, RawItem, Token, [], add-zero, ap, append-nil, append_assoc, arith, cases_eq, count_by, cut_from, drop, eqb-true, inl, inr, length, length-append, length-drop, length-take, line_feed, refl, rules, subst, sum_by-append, sym, take, take-append-drop, take-length, text, token_text, true, zero, ℕ, ◌++◌, ◌+◌, ◌<◌, ◌==◌, ◌∙◌, ◌∷◌, ◌≡◌, ◌≤◌, ◌⊎◌}
+use Rattle.zone_text.proofs.Common.{AreTokens, Cut, Cuts, EndInLineFeed, Fault, IsBrokenOff, IsFirstEntry, IsOneEntry, IsOpen, List, RawItem, Token, [], ap, append-nil, append_assoc, arith, cases_eq, count_by, cut_from, drop, inl, inr, length, length-append, line_feed, refl, rules, subst, sum_by-append, sym, take, take-append-drop, take-length, text, token_text, zero, ℕ, ◌++◌, ◌+◌, ◌<◌, ◌==◌, ◌∙◌, ◌∷◌, ◌≡◌, ◌≤◌, ◌⊎◌}
 use Rattle.std.proofs.Common.{◌≢◌, false}
 use Rattle.std.proofs.lemmas.Bool.Decides.{nat_tests}
 use Rattle.std.specs.Prelude.{IsTrue, nat_eq}

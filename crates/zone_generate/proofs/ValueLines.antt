@@ -1,11 +1,10 @@
 -- The values of a range, and the lines for them.
-use Rattle.std.proofs.Common.{◌≡◌, ◌≢◌, ℕ, zero, suc, ◌+◌, ◌-◌, ◌*◌, ◌<◌, ◌≤◌, ◌^◌, List, [], ◌∷◌, ◌++◌, refl, sym, ap, subst, arith, append_assoc, ◌∙◌, Option, Some, None, inl, inr, ◌⊎◌}
+use Rattle.std.proofs.Common.{◌≡◌, ℕ, suc, ◌+◌, ◌-◌, ◌*◌, ◌<◌, ◌≤◌, ◌^◌, List, [], ◌∷◌, ◌++◌, refl, sym, ap, subst, arith, append_assoc, ◌∙◌, Option, Some, None, inl, inr, ◌⊎◌}
 use Rattle.std.proofs.Math.Nat.{mul-le-mul_right}
 use Rattle.std.proofs.lemmas.List.{append-nil}
-use Rattle.zone_name.specs.Common.{NothingIs}
 use Rattle.zone_generate.proofs.OneLines.{one_line_or_not}
-use Rattle.zone_generate.specs.Lines.{AreLines, BeginWithLine, IsLineFor, IsOneLine, SaysNothing, Templates, line_of}
-use Rattle.zone_generate.specs.Range.{values_from, values_of}
+use Rattle.zone_generate.specs.Lines.{AreLines, IsLineFor, IsOneLine, SaysNothing, Templates, line_of}
+use Rattle.zone_generate.specs.Range.{values_from}
 use Rattle.zone_generate.specs.Entry.{Generation}
 use Rattle.zone_generate.specs.Steps.{IsAtFault, TakesValue}
 use Rattle.zone_generate.specs.Values.{AreSmall}

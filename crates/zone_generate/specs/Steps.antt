@@ -1,5 +1,5 @@
 -- The lines of a generation, taken one by one.
-use Rattle.std.specs.Prelude.{◌≡◌, ℕ, List, [], ◌∷◌, ◌++◌}
+use Rattle.std.specs.Prelude.{◌≡◌, ℕ, List, ◌∷◌, ◌++◌}
 use Rattle.zone_generate.specs.Entry.{Generation}
 use Rattle.zone_generate.specs.Lines.{IsLineFor, SaysNothing}
 

@@ -1,8 +1,9 @@
 //! Laws of `$GENERATE`: what is true of its lines, whatever its templates are.
-ghost use Rattle.std.specs.Prelude.{◌≡◌, ◌<◌, ◌↔◌, ◌++◌, ◌∷◌, [], length, ℕ, List, None, Ok, Option, Some};
+ghost use Rattle.std.specs.Prelude.{◌≡◌, ◌≤◌, ◌↔◌, ◌++◌, ◌∷◌, [], length, ℕ, List, None, Err, Option, Some};
 ghost use Rattle.zone_rdata.specs.Item.{RawItem};
 ghost use Rattle.zone_generate.specs.Entry.{Generation, generation_in};
 ghost use Rattle.zone_generate.specs.Lines.{AreLines, IsLineFor, Templates};
+ghost use Rattle.zone_generate.specs.declared.failing.GenerateFault.TheVariants as faults;
 ghost use Rattle.zone_generate.specs.Steps.{IsAtFault, TakesValue};
 
 /// A range of one value is one line.
@@ -50,10 +51,9 @@ pub fn lines_are_taken_one_by_one()
         → AreLines g.templates g.values [] (Some value) }
 {}
 
-/// What a `$GENERATE` entry has after its word is six items at most. So an entry of which very many
-/// items were kept stands for lines exactly if all of its items do: neither does.
-#[tactic(auto, using(crate::proofs::EntryItems::few_items))]
-pub fn a_generation_has_few_items()
-    ensures { (items : List RawItem) (g : Generation) → generation_in items ≡ Ok g
-        → length items < 7 }
+/// What a `$GENERATE` entry has after its word is six items at most. Of more it has the fault
+/// `BadGenerate`, so it doesn't matter that not all of very many are kept.
+pub fn many_items_are_no_generation()
+    ensures { (items : List RawItem) → 7 ≤ length items
+        → generation_in items ≡ Err faults.BadGenerate }
 {}
