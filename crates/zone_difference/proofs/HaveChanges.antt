@@ -1,11 +1,10 @@
 -- Any two ascending lists have changes.
-use Rattle.zone_set.proofs.Common.{◌≡◌, ◌≢◌, Equal, Greater, Less, Ordering, List, [], ◌∷◌, ◌+◌, ◌≤◌, refl, arith, inl, inr, length, suc, zero, AllByRecursion, Has, Record, ℕ}
+use Rattle.zone_set.proofs.Common.{◌≡◌, Equal, Greater, Less, Ordering, List, [], ◌∷◌, ◌+◌, ◌≤◌, refl, arith, inl, inr, length, suc, zero, Record, ℕ}
 use Rattle.std.specs.Prelude.{◌⊎◌}
 use Rattle.zone_set.specs.Order.{Ascends, canonical_cmp}
 use Rattle.zone_difference.proofs.OneDifference.{same_or_not}
 use Rattle.zone_difference.proofs.Steps.{Before, changes_at, comes_alone, comes_first, goes_alone, goes_first, nothing, stays_at}
 use Rattle.zone_difference.specs.Difference.{AreChanges, Change, addition, removal}
-use Rattle.zone_difference.specs.Walk.{AreSides}
 
 abbrev pub HaveChanges : List Record → List Record → Type 0
 HaveChanges left right = (changes : List Change) × AreChanges left right changes

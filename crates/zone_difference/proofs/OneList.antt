@@ -1,8 +1,7 @@
 -- One list of changes, and what it says of the zones.
-use Rattle.zone_set.proofs.Common.{◌≡◌, Equal, Less, Greater, List, [], ◌∷◌, refl, sym, ap, ◌∙◌, subst, inl, inr, ordering_reverse, AllByRecursion, Has, Record, IsZone}
-use Rattle.std.specs.Prelude.{◌⊎◌, ◌↔◌}
+use Rattle.zone_set.proofs.Common.{◌≡◌, List, [], ◌∷◌, refl, sym, ap, ◌∙◌, subst, inl, inr, ordering_reverse, AllByRecursion, Has, Record, IsZone}
+use Rattle.std.specs.Prelude.{◌↔◌}
 use Rattle.zone_set.proofs.Ordering.SetOrder.{canonical_total}
-use Rattle.zone_set.specs.Order.{canonical_cmp}
 use Rattle.zone_set.specs.Zone.{Zone}
 use Rattle.zone_difference.proofs.OneDifference.{none_if_one, one_difference}
 use Rattle.zone_difference.proofs.Steps.{turn}

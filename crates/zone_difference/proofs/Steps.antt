@@ -1,5 +1,5 @@
 -- The steps of a walk over two ascending lists.
-use Rattle.zone_set.proofs.Common.{◌≡◌, ◌≢◌, Equal, Greater, Less, List, [], ◌∷◌, ◌++◌, refl, sym, ap, ◌∙◌, append_assoc, append-nil, subst, inl, inr, ⊎_elim, AllByRecursion, ordering_reverse, tied_itself, Has, IsZone, Record, ℕ}
+use Rattle.zone_set.proofs.Common.{◌≡◌, ◌≢◌, Equal, Greater, Less, List, [], ◌∷◌, refl, sym, ap, ◌∙◌, subst, inl, inr, ⊎_elim, AllByRecursion, ordering_reverse, tied_itself, Has, IsZone, Record}
 use Rattle.zone_set.proofs.Holding.Together.{each_Has, each_from_Has}
 use Rattle.zone_set.proofs.Ordering.SetOrder.{canonical_total}
 use Rattle.zone_set.specs.Order.{Ascends, canonical_cmp}

@@ -1,5 +1,5 @@
 -- What is left of two lists of records (private).
-use Rattle.std.specs.Prelude.{◌≡◌, ℕ, List, [], ◌∷◌, ◌++◌, Option, Some, None}
+use Rattle.std.specs.Prelude.{◌≡◌, ℕ, List, [], ◌∷◌, Option, Some, None}
 use Rattle.std.specs.List.{AllByRecursion}
 use Rattle.zone_rdata.specs.Lent.{record_of}
 use Rattle.zone_rdata.specs.Record.{Record}
