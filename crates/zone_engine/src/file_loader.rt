@@ -31,7 +31,7 @@ pub struct FileLoader {
     taken: ZoneLoader,
     /// The octets of all pieces, at most `u64::MAX`.
     fed: u64,
-    failed: bool,
+    has_failed: bool,
 }
 
 impl Model for FileLoader {
@@ -40,7 +40,7 @@ impl Model for FileLoader {
 
     ghost Value = { LoaderState };
 
-    ghost view = { λ l. record { source = l.source; listed = l.taken.list; refusal = l.taken.refusal; fed = l.fed; failed = l.failed } };
+    ghost view = { λ l. record { source = l.source; listed = l.taken.list; refusal = l.taken.refusal; fed = l.fed; failed = l.has_failed } };
 
     ghost invariant = { λ l. IsFileLoader l.source l.fed };
 }
@@ -61,7 +61,7 @@ impl FileLoader {
             source,
             taken,
             fed: 0,
-            failed: false,
+            has_failed: false,
         }
     }
 
@@ -84,7 +84,7 @@ impl FileLoader {
         what_is_decided_refuses();
         let fed = self.fed.saturating_add(piece.len() as u64);
         self.fed = fed;
-        if self.failed {
+        if self.has_failed {
             return Err(Stop::Memory);
         }
         if fed > TEXT_LIMIT {
@@ -94,7 +94,7 @@ impl FileLoader {
         match self.taken.take(&mut self.source, piece) {
             Ok(()) => Ok(()),
             Err(stop) => {
-                self.failed = true;
+                self.has_failed = true;
                 Err(stop)
             }
         }
@@ -119,15 +119,14 @@ impl FileLoader {
             (λ refusal. result ≡ Err (Stop.Refused refusal.0 refusal.1)) }
         ensures failed { self.failed ≡ true → result ≡ Err Memory }
     {
+        if self.has_failed {
+            return Err(Stop::Memory);
+        }
         let FileLoader {
             mut source,
             taken,
-            failed,
             ..
         } = self;
-        if failed {
-            return Err(Stop::Memory);
-        }
         what_is_read_is_stated();
         let stated = taken.finish(&mut source)?;
         if !text_fits(&stated) {

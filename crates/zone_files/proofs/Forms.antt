@@ -25,7 +25,7 @@ StatesTheFiles = (cased origin : Labels) (octets new : List ℕ) (told : List Re
 
 abbrev pub DenotesItsForm : Type 0
 DenotesItsForm = (origin : Labels) (octets generic : List ℕ) (z : Zone)
-    → HasGenericForm origin octets generic
+    → length octets ≤ text_limit → HasGenericForm origin octets generic
     → PresentationDenotes origin octets z ↔ InputDenotes (file (folded origin) generic) z
 
 abbrev pub OneForm : Type 0
@@ -35,7 +35,7 @@ pub one_form : OneRewriting → OneForm
 one_form one origin octets a b p q = (one origin octets a b p.refused q.refused p.rewriting q.rewriting).0
 
 pub denotes_its_form : StatesTheFiles → OneRewriting → DenotesItsForm
-denotes_its_form states one origin octets generic z form = (
+denotes_its_form states one origin octets generic z within form = (
   λ d. record {
     short = d.short generic form;
     placed = d.placed;
@@ -43,6 +43,7 @@ denotes_its_form states one origin octets generic z form = (
     makes = d.makes;
   },
   λ i. record {
+    within = within;
     placed = i.placed;
     states = (states origin (folded origin) octets generic form.refused i.placed form.rewriting).0 i.states;
     makes = i.makes;
@@ -58,4 +59,8 @@ some_form some origin octets name low =
 
 pub plain_form : ((origin : Labels) (octets : List ℕ) → HasNoFurtherWord octets → IsRewriting origin octets octets []) → DenotesItsForm
     → (origin : Labels) (octets : List ℕ) (z : Zone) → HasNoFurtherWord octets → PresentationDenotes origin octets z ↔ InputDenotes (file (folded origin) octets) z
-plain_form stays denotes origin octets z none = denotes origin octets octets z (record { refused = []; rewriting = stays origin octets none })
+plain_form stays denotes origin octets z none =
+    let form : HasGenericForm origin octets octets = record { refused = []; rewriting = stays origin octets none } in (
+      λ d. (denotes origin octets octets z d.within form).0 d,
+      λ i. (denotes origin octets octets z i.short form).1 i,
+    )

@@ -1,4 +1,4 @@
 mod GenericOctets
 mod Forms
 mod Headline
-mod InMemory
+mod Presenting

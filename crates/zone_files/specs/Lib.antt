@@ -1,2 +1,4 @@
 pub mod Presentation
 pub mod Normalise
+pub mod Loading
+pub mod Machine

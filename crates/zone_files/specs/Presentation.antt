@@ -1,10 +1,12 @@
 -- The zone that a master file denotes, with the records of all types in presentation format (RFC
 -- 1035 5, RFC 3597 5) or in the generic form.
-use Rattle.std.specs.Prelude.{ℕ, ◌≤◌, List, length}
+use Rattle.std.specs.Prelude.{ℕ, ◌<◌, ◌≤◌, List, length}
 use Rattle.zone_name.specs.Common.{AreOctets, Labels}
 use Rattle.zone_name.specs.Name.{IsCasedName, folded}
 use Rattle.zone_rdata.specs.declared.fault.Fault.{Fault}
+use Rattle.zone_rdata.specs.declared.fault.Fault.TheVariants.{InputTooLong}
 use Rattle.zone_rdata.specs.declared.fault.Place.{Place}
+use Rattle.zone_rdata.specs.declared.fault.Place.TheVariants.{Whole}
 use Rattle.zone_rdata.specs.declared.record.Placed.{Placed}
 use Rattle.zone_set.specs.Zone.{Zone}
 use Rattle.zone_print.specs.Canonical.{text_limit}
@@ -22,20 +24,24 @@ pub record HasGenericForm (origin : Labels) (octets generic : List ℕ) : Type 0
   pub rewriting : IsRewriting origin octets generic refused
 
 -- A master file denotes a zone: the one of the records that it states, in presentation format or in
--- the generic form, under its origin. Names in data keep the letters of the origin.
+-- the generic form, under its origin. Names in data keep the letters of the origin. Neither the file
+-- nor its generic form has more octets than the limit.
 pub record PresentationDenotes (origin : Labels) (octets : List ℕ) (z : Zone) : Type 0 where
+  pub within : length octets ≤ text_limit
   pub placed : List Placed
   pub states : FileStatesWithWords origin (folded origin) octets placed
   pub makes : MakesZone placed z
   pub short : (generic : List ℕ) → HasGenericForm origin octets generic
       → length generic ≤ text_limit
 
--- what refuses a master file, and where
-pub record RefusesPresentation (origin : Labels) (octets : List ℕ) (fault : Fault)
-    (place : Place) : Type 0 where
-  pub generic : List ℕ
-  pub form : HasGenericForm origin octets generic
-  pub refuses : IsRefusal (file (folded origin) generic) fault place
+-- what refuses a master file, and where: it is longer than the limit, or else its generic form is
+-- refused
+pub data RefusesPresentation (origin : Labels) (octets : List ℕ) : Fault → Place → Type 0 where
+  too_long : text_limit < length octets → RefusesPresentation origin octets InputTooLong Whole
+  in_generic_form : (generic : List ℕ) (fault : Fault) (place : Place)
+      → length octets ≤ text_limit → HasGenericForm origin octets generic
+      → IsRefusal (file (folded origin) generic) fault place
+      → RefusesPresentation origin octets fault place
 
 -- where a zone comes from: a master file with its origin, or the octets of a zone transfer
 pub data Source : Type 0 where

@@ -1,26 +1,22 @@
 //! Master files that are held whole.
-ghost use Rattle.std.specs.Prelude.{◌≡◌, IfErr, IfOk};
-ghost use Rattle.zone_files.specs.Presentation.{Source, master_file};
-ghost use Rattle.zone_files.specs.Normalise.{NormalisesSourceTo, StopsSource};
+ghost use Rattle.std.specs.Prelude.{IfErr, IfOk};
+ghost use Rattle.zone_engine.specs.Normalise.{IsOfBytes};
+ghost use Rattle.zone_files.specs.Loading.Reading.{IsRefusalOf};
+ghost use Rattle.zone_files.specs.Presentation.{master_file};
+ghost use Rattle.zone_files.specs.Normalise.{NormalisesSourceTo};
 
+use crate::loading::{PresentationRefusal, SourceForm, accepted_source};
 use std::alloc::Global;
-use zone_engine::{Form, normalise_bytes};
+use zone_engine::OctetSlice;
 use zone_name::CasedName;
-use zone_rdata::Stop;
-use zone_words::{Refusals, rewrite_file};
-
-/// Why a file was refused, with the entries whose presentation format states no data.
-#[derive(Drop)]
-pub struct PresentationRefusal {
-    pub stop: Stop,
-    pub refusals: Option<Refusals>,
-}
+use zone_print::push_zone;
 
 /// The canonical text of the zone that a master file denotes.
 ///
 /// # Errors
 ///
-/// `Refused` where it denotes none, and `Memory`.
+/// `Refused` where it denotes none, with the fault and the place, and the entry at fault where its
+/// items state no data of its further type; `Memory`.
 pub fn normalise_presentation(
     alloc: Global,
     origin: &CasedName,
@@ -28,22 +24,16 @@ pub fn normalise_presentation(
 ) -> Result<Vec<u8>, PresentationRefusal>
     ensures accepted { IfOk result (λ text.
         NormalisesSourceTo (master_file origin.now octets.now) text.items) }
-    ensures stopped { IfErr result (λ refusal.
-        StopsSource (master_file origin.now octets.now) refusal.stop) }
+    ensures stopped { IfErr result (λ refusal. IsOfBytes refusal.stop) }
+    ensures fault { IfErr result (IsRefusalOf (master_file origin.now octets.now)) }
 {
-    let Ok(rewritten) = rewrite_file(alloc, origin, octets) else {
-        return Err(PresentationRefusal {
-            stop: Stop::Memory,
-            refusals: None,
-        });
+    let mut slice = OctetSlice { rest: octets };
+    let zone = match accepted_source(alloc, SourceForm::File(origin), &mut slice) {
+        Ok(zone) => zone,
+        Err(refusal) => return Err(refusal),
     };
-    let name = origin.folded();
-    crate::laws::a_file_denotes_what_its_generic_form_denotes();
-    match normalise_bytes(alloc, Form::File(&name), &rewritten.text) {
+    match push_zone(alloc, &zone) {
         Ok(text) => Ok(text),
-        Err(stop) => Err(PresentationRefusal {
-            stop,
-            refusals: Some(rewritten.refusals),
-        }),
+        Err(stop) => Err(PresentationRefusal::of_stop(stop)),
     }
 }

@@ -1,14 +1,16 @@
 //! Laws over the definitions alone.
-ghost use Rattle.std.specs.Prelude.{◌≡◌, ◌↔◌, ◌⊎◌, ℕ, List, []};
+ghost use Rattle.std.specs.Prelude.{◌≡◌, ◌↔◌, ◌≤◌, ℕ, List, [], Option, length};
 ghost use Rattle.zone_name.specs.Common.{AreOctets, AtMostOneIs, Labels, NothingIs};
 ghost use Rattle.zone_name.specs.Name.{IsCasedName, folded};
 ghost use Rattle.zone_rdata.specs.declared.fault.Fault.{Fault};
 ghost use Rattle.zone_rdata.specs.declared.fault.Place.{Place};
 ghost use Rattle.zone_set.specs.Zone.{Zone};
-ghost use Rattle.zone_print.specs.Canonical.{canon};
+ghost use Rattle.zone_print.specs.Canonical.{canon, text_limit};
 ghost use Rattle.zone_engine.specs.Headline.{DenotesOnly};
 ghost use Rattle.zone_engine.specs.Input.{InputDenotes, file};
 ghost use Rattle.zone_words.specs.NoFurther.{HasNoFurtherWord};
+ghost use Rattle.zone_words.specs.Rewriting.{Refused};
+ghost use Rattle.zone_files.specs.Loading.Reading.{IsReportedSource};
 ghost use Rattle.words_print.specs.Shown.{IsShownText};
 ghost use Rattle.zone_files.specs.Presentation.{
   AreOneZone,
@@ -31,10 +33,10 @@ use zone_words::laws::{
     a_file_without_further_words_stays, a_text_has_a_rewriting, rewriting_is_unique,
 };
 
-/// A file denotes the zone that its generic form denotes.
+/// A file within the limit denotes the zone that its generic form denotes.
 pub fn a_file_denotes_what_its_generic_form_denotes()
     ensures { (origin : Labels) (octets generic : List ℕ) (z : Zone)
-        → HasGenericForm origin octets generic
+        → length octets ≤ text_limit → HasGenericForm origin octets generic
         → PresentationDenotes origin octets z ↔ InputDenotes (file (folded origin) generic) z }
 {
     a_rewriting_states_the_files_records();
@@ -75,17 +77,31 @@ pub fn one_zone_of_a_source()
     one_refusal();
 }
 
+/// A source of which a refusal is reported is refused, and one refusal is reported of it.
+pub fn one_report_of_a_source()
+    ensures refused { (source : Source) (fault : Fault) (place : Place) (entry : Option Refused)
+        → IsReportedSource source fault place entry → IsRefusedSource source }
+    ensures one { (source : Source) (fault other : Fault) (place elsewhere : Place)
+        (entry others : Option Refused) → IsReportedSource source fault place entry
+        → IsReportedSource source other elsewhere others
+        → (fault ≡ other) × (place ≡ elsewhere) × (entry ≡ others) }
+{
+    rewriting_is_unique();
+    one_zone_of_a_source();
+}
+
 /// Of any two accepted sources, each a master file in presentation format with its origin or a zone
 /// transfer, the canonical texts are equal exactly if they denote one zone; that text denotes the
-/// zone, and so does what is shown of it in presentation format; and a source is refused exactly if
-/// it denotes no zone.
+/// zone, and so does what is shown of it in presentation format, where that is within the limit; and
+/// a source is refused exactly if it denotes no zone.
 pub fn presentation_headline()
     ensures same { (a b : Source) (z w : Zone) → IsSource a → IsSource b
         → SourceDenotes a z → SourceDenotes b w → (canon z ≡ canon w) ↔ AreOneZone a b }
     ensures back { (source : Source) (z : Zone) (origin : Labels) → IsSource source
         → SourceDenotes source z → DenotesOnly (file origin (canon z)) z }
     ensures shown { (source : Source) (z : Zone) (shown : List ℕ) → IsSource source
-        → SourceDenotes source z → IsShownText (canon z) shown → PresentationDenotes [] shown z }
+        → SourceDenotes source z → IsShownText (canon z) shown → length shown ≤ text_limit
+        → PresentationDenotes [] shown z }
     ensures refused { (source : Source) → IsSource source → IsRefusedSource source
         ↔ NothingIs (SourceDenotes source) }
 {

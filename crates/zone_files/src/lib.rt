@@ -4,5 +4,10 @@
 
 mod bytes;
 pub mod laws;
+mod loading;
 
-pub use bytes::{PresentationRefusal, normalise_presentation};
+pub use bytes::normalise_presentation;
+pub use loading::{
+    PresentationLoader, PresentationRefusal, SourceForm, accepted_source, compare_sources,
+    normalise_source,
+};

@@ -1,10 +1,10 @@
-use Rattle.zone_files.proofs.InMemory.{accepted_text, stopped}
+use Rattle.zone_files.proofs.Presenting.Written.{pushing_memory}
 use Rattle.zone_files.proofs.bytes.normalise_presentation.Goals as goal
-
-pub returns-in-Ok-normalise_bytes-clause-accepted : goal.returns-in-Ok-normalise_bytes-clause-accepted
-returns-in-Ok-normalise_bytes-clause-accepted c =
-    accepted_text _ _ _ _ _ _ c.a_file_denotes_what_its_generic_form_denotes.ensures c.in-Ok.ensures c.deref.ensures.value c.folded-name.ensures _ c.in-Ok-normalise_bytes.ensures.accepted
 
 pub returns-clause-stopped : goal.returns-clause-stopped
 returns-clause-stopped c =
-    stopped _ _ _ _ _ _ c.in-Ok.ensures c.deref.ensures.value c.folded-name.ensures _ c.in-Err.ensures.stopped c.in-Err.ensures.fault
+    rw (c.of_stop.ensures, pushing_memory _ c.in-Err-push_zone.stop c.in-Ok.ensures.short c.in-Err-push_zone.ensures.stopped) tt
+
+pub returns-clause-fault : goal.returns-clause-fault
+returns-clause-fault c =
+    rw (c.of_stop.ensures, pushing_memory _ c.in-Err-push_zone.stop c.in-Ok.ensures.short c.in-Err-push_zone.ensures.stopped) tt

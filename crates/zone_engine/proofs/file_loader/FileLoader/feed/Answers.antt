@@ -9,7 +9,7 @@ returns-then-fed-gt-TEXT_LIMIT-clause-stands c =
 
 pub returns-in-Ok-clause-stands : goal.returns-in-Ok-clause-stands
 returns-in-Ok-clause-stands c origin fed stands =
-    let old : LoaderState = record { source = c.self.inside.source; listed = c.self.inside.taken.list; refusal = c.self.inside.taken.refusal; fed = c.self.inside.fed; failed = c.self.inside.failed } in
+    let old : LoaderState = record { source = c.self.inside.source; listed = c.self.inside.taken.list; refusal = c.self.inside.taken.refusal; fed = c.self.inside.fed; failed = c.self.inside.has_failed } in
     fed_more old _ c.args.piece.now c.take.ensures.octets (search rules) (search rules) (search rules) c.what_is_decided_refuses.ensures
     (kept_refusal c.self.inside.taken c.take.new.self _ c.take.ensures.refused) c.in-Ok.ensures.taken origin fed
     (subst (λ (s : LoaderState). StandsForFed origin s fed) (sym c.self.view_is) stands)
