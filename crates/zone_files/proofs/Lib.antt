@@ -2,3 +2,5 @@ mod GenericOctets
 mod Forms
 mod Headline
 mod Presenting
+pub mod FileNames
+pub mod Pieces

@@ -1,4 +1,9 @@
 pub mod Presentation
 pub mod Normalise
 pub mod Loading
+pub mod ExpansionFault
+pub mod FileName
+pub mod FileNameRefusal
+pub mod Places
+pub mod FaultLine
 pub mod Machine

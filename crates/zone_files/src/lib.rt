@@ -3,11 +3,22 @@
 #![tactic(auto)]
 
 mod bytes;
+mod fault;
+mod fault_line;
+mod file_name;
 pub mod laws;
 mod loading;
+mod places;
 
 pub use bytes::normalise_presentation;
+pub use fault::{ExpansionFailing, ExpansionFault};
+pub use fault_line::{
+    EntryPlace, FaultPlace, write_data_fault, write_expansion_fault, write_fault, write_unreadable,
+    write_unreadable_main,
+};
+pub use file_name::included_file_name;
 pub use loading::{
     PresentationLoader, PresentationRefusal, SourceForm, accepted_source, compare_sources,
     normalise_source,
 };
+pub use places::{FilePlace, Places, Stretch};

@@ -17,8 +17,8 @@ use zone_engine::{OctetReader, Verdict, Which, first_difference};
 ///
 /// # Errors
 ///
-/// The first source that stops it, and why: those of `accepted_source`. Where that is the first
-/// source, the second isn't read.
+/// The first source that stops it, and why: `Refused` where it denotes no zone, `Read` where its
+/// reader failed, and `Memory`. Where that is the first source, the second isn't read.
 pub fn compare_sources<R: OctetReader, S: OctetReader>(
     alloc: Global,
     first_form: SourceForm<'_>,

@@ -16,8 +16,9 @@ use zone_print::{OctetWriter, write_zone};
 ///
 /// # Errors
 ///
-/// Those of `accepted_source`: nothing was written. `Write` where the writer failed, which isn't
-/// called again, and `Memory`: a proper prefix of the text was written.
+/// `Refused` where they denote no zone, `Read` where the reader failed, and `Memory`: nothing was
+/// written. `Write` where the writer failed, which isn't called again, and `Memory` while it is
+/// written: a proper prefix of the text was written.
 pub fn normalise_source<R: OctetReader, W: OctetWriter>(
     alloc: Global,
     form: SourceForm<'_>,
