@@ -3,6 +3,7 @@
 use std::alloc::{AllocError, Global};
 use std::test::Fail;
 use test_support::{Question, check_table, push_text, push_words};
+use type_data::WordsFault;
 use zone_files::{
     EntryPlace, ExpansionFailing, ExpansionFault, FaultPlace, FilePlace, Places,
     included_file_name, write_data_fault, write_expansion_fault, write_fault, write_unreadable,
@@ -10,7 +11,7 @@ use zone_files::{
 };
 use zone_print::OctetVec;
 use zone_rdata::{Fault, Stop};
-use zone_words::{Refusal, WordsFault};
+use zone_words::Refusal;
 
 /// The name under which a file is opened: of `FILE` where no directory is given, or of `DIR: FILE`.
 struct Named;
