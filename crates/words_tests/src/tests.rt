@@ -1,4 +1,5 @@
 //! Master files that are written again, texts that are shown in words, and runs of the program.
+mod expanded_texts;
 mod included_files;
 mod presentation_files;
 mod rewriting;

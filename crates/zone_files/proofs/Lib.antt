@@ -4,3 +4,4 @@ mod Headline
 mod Presenting
 pub mod FileNames
 pub mod Pieces
+pub mod Expansions

@@ -7,3 +7,5 @@ pub mod FileNameRefusal
 pub mod Places
 pub mod FaultLine
 pub mod Machine
+pub mod Expansion
+pub mod FileExpander

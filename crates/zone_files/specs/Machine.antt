@@ -1,3 +1,7 @@
 -- What only private functions and proofs cite.
 pub mod Loading
 pub mod Told
+pub mod Naming
+pub mod Stepping
+pub mod Progressing
+pub mod Expanding

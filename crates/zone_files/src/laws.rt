@@ -23,6 +23,8 @@ ghost use Rattle.zone_files.specs.Presentation.{
   SourceDenotes,
 };
 
+pub mod expansion;
+
 use words_print::laws::a_canonical_text_comes_back;
 use zone_engine::laws::{
     headline, no_zone_of_a_refused_input, one_refusal, one_zone, refusal_or_zone,

@@ -3,6 +3,7 @@
 #![tactic(auto)]
 
 mod bytes;
+mod expansion;
 mod fault;
 mod fault_line;
 mod file_name;
@@ -11,6 +12,7 @@ mod loading;
 mod places;
 
 pub use bytes::normalise_presentation;
+pub use expansion::{FileExpander, FileStatus};
 pub use fault::{ExpansionFailing, ExpansionFault};
 pub use fault_line::{
     EntryPlace, FaultPlace, write_data_fault, write_expansion_fault, write_fault, write_unreadable,

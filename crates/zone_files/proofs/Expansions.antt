@@ -1,0 +1,10 @@
+-- Expanded texts.
+pub mod Once
+pub mod Naming
+pub mod Steps
+pub mod Following
+pub mod KeptItems
+pub mod Progressing
+pub mod Own
+pub mod Including
+pub mod Stepping

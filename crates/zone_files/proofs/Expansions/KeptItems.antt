@@ -1,0 +1,64 @@
+-- Where some of very many items are left out, the same becomes of an entry.
+use Rattle.std.proofs.Common.{◌≡◌, ℕ, ◌≤◌, List, [], ◌∷◌, ◌++◌, Option, Some, None, Bool, true, false, if◌then◌else◌, bytes_eq, codes, ◌==◌, length, refl, sym, ap, subst, ◌∙◌, arith, ◌⊎◌, inl, inr}
+use Rattle.zone_name.specs.Common.{Labels, NothingIs}
+use Rattle.zone_name.specs.Name.{folded_label}
+use Rattle.zone_rdata.specs.Spelling.{RawItem, bare, quoted}
+use Rattle.zone_rdata.specs.LeftOut.{AreShortened}
+use Rattle.zone_text.specs.Kept.{AreKept}
+use Rattle.zone_text.specs.Statements.{Statement, directive, includes, owned, sets_origin, sets_ttl, statement_by, unknown, unowned}
+use Rattle.zone_text.specs.Tokens.{is_blank}
+use Rattle.zone_words.specs.Inherited.{IsOneOrNone}
+use Rattle.zone_words.specs.Origin.{NamesOrigin}
+use Rattle.zone_files.specs.Expansion.{Holds, Included, Includes, Outcome, StatementBecomes, StatesInclude, bad_include, bad_name, is_opened, too_many}
+
+module _ (h : Holds) (entry : List ℕ) (outcome : Outcome) where
+  if_both : (Alike : Statement → Statement → Type 0) (test : Bool) (a b c d : Statement) → Alike a c → Alike b d → Alike (if test then a else b) (if test then c else d)
+  if_both Alike true a b c d p q = p
+  if_both Alike false a b c d p q = q
+
+  origin_alike : (above : Labels) (a b : RawItem) (x y : List RawItem) (named : Option Labels) → IsOneOrNone (NamesOrigin above (a ∷ b ∷ x)) named → IsOneOrNone (NamesOrigin above (a ∷ b ∷ y)) named
+  origin_alike above (bare t) b x y None p = λ name is. is
+  origin_alike above (bare t) b x y (Some name) p = absurd p
+  origin_alike above (quoted t) b x y None p = λ name is. is
+  origin_alike above (quoted t) b x y (Some name) p = absurd p
+
+  three_items : (above : Labels) (a b c : RawItem) (x : List RawItem) → NothingIs (StatesInclude above (a ∷ b ∷ c ∷ x))
+  three_items above a (bare t) c x it s = s.1
+  three_items above a (quoted t) c x it s = s.1
+
+  include_alike : (a b c : RawItem) (x y : List RawItem) → Includes h (a ∷ b ∷ c ∷ x) outcome → Includes h (a ∷ b ∷ c ∷ y) outcome
+  include_alike a b c x y (bad_include lacks e) = bad_include (three_items h.origin a b c y) e
+  include_alike a b c x y (bad_name it s n e) = absurd (three_items h.origin a b c x it s)
+  include_alike a b c x y (too_many it name s n m e) = absurd (three_items h.origin a b c x it s)
+  include_alike a b c x y (is_opened it name s n m e) = absurd (three_items h.origin a b c x it s)
+
+  module _ (a b c d : RawItem) (x y : List RawItem) where
+    abbrev pub Alike : Statement → Statement → Type 0
+    Alike s t = StatementBecomes h entry (a ∷ b ∷ c ∷ d ∷ x) s outcome → StatementBecomes h entry (a ∷ b ∷ c ∷ d ∷ y) t outcome
+
+    directive_alike : (word : RawItem) → Alike (directive word (b ∷ c ∷ d ∷ x)) (directive word (b ∷ c ∷ d ∷ y))
+    directive_alike (quoted text) = λ p. p
+    directive_alike (bare text) =
+        if_both Alike (bytes_eq (folded_label text) (codes "$origin")) _ _ _ _ (λ p. (p.0, origin_alike h.origin b c (d ∷ x) (d ∷ y) p.0 p.1, p.2))
+        (if_both Alike (bytes_eq (folded_label text) (codes "$ttl")) _ _ _ _ (λ p. p)
+        (if_both Alike (bytes_eq (folded_label text) (codes "$include")) _ _ _ _ (include_alike b c d x y) (λ p. p)))
+
+    statement_alike : (first : Option ℕ) → Alike (statement_by first (a ∷ b ∷ c ∷ d ∷ x)) (statement_by first (a ∷ b ∷ c ∷ d ∷ y))
+    statement_alike None = λ p. p
+    statement_alike (Some o) =
+        if_both Alike (o == 36) _ _ _ _ (directive_alike a)
+        (if_both Alike (is_blank o) _ _ _ _ (λ p. p) (λ p. p))
+
+  shortened_becomes : (first : Option ℕ) (front more others : List RawItem) → 4 ≤ length front → StatementBecomes h entry (front ++ others) (statement_by first (front ++ others)) outcome → StatementBecomes h entry (front ++ more) (statement_by first (front ++ more)) outcome
+  shortened_becomes first [] more others long p = absurd (omega (arith, long))
+  shortened_becomes first (a ∷ []) more others long p = absurd (omega (arith, long))
+  shortened_becomes first (a ∷ b ∷ []) more others long p = absurd (omega (arith, long))
+  shortened_becomes first (a ∷ b ∷ c ∷ []) more others long p = absurd (omega (arith, long))
+  shortened_becomes first (a ∷ b ∷ c ∷ d ∷ front) more others long p = statement_alike a b c d (front ++ others) (front ++ more) first p
+
+  pub kept_becomes : (first : Option ℕ) (all kept : List RawItem) → AreKept all kept → StatementBecomes h entry kept (statement_by first kept) outcome → StatementBecomes h entry all (statement_by first all) outcome
+  kept_becomes first all kept (inl same) p = subst (λ items. StatementBecomes h entry items (statement_by first items) outcome) same p
+  kept_becomes first all kept (inr short) p =
+      subst (λ items. StatementBecomes h entry items (statement_by first items) outcome) (sym short.whole)
+      (shortened_becomes first short.first short.more short.others (omega (arith, short.many))
+      (subst (λ items. StatementBecomes h entry items (statement_by first items) outcome) short.are_kept p))

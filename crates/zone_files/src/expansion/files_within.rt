@@ -1,0 +1,118 @@
+//! What holds at the beginning of a file.
+ghost use Rattle.std.specs.Prelude.{◌≡◌, ◌≤◌, IfNone, IfOk, IfSome, option_map};
+ghost use Rattle.zone_files.specs.Expansion.{at_first, back_in, within};
+
+use crate::expansion::holding::Holding;
+use crate::expansion::including::MOST_OPENED;
+use crate::expansion::opened_name::FileName;
+use std::alloc::{AllocError, Global};
+use zone_name::CasedName;
+
+/// A copy of a name, if there is one.
+fn copied(name: &Option<CasedName>) -> Option<CasedName>
+    ensures { result ≡ name.now }
+{
+    match name {
+        Some(name) => Some(name.copy()),
+        None => None,
+    }
+}
+
+/// A directory, if one is given.
+fn directory_of(alloc: Global, directory: Option<&str>) -> Result<Option<FileName>, AllocError>
+    ensures { IfOk result (λ made. made ≡ option_map (λ folder. folder.now) directory.entry) }
+{
+    match directory {
+        Some(folder) => Ok(Some(FileName::of(alloc, folder)?)),
+        None => Ok(None),
+    }
+}
+
+/// A copy of a directory, if one is given.
+fn copied_directory(
+    alloc: Global,
+    directory: &Option<FileName>,
+) -> Result<Option<FileName>, AllocError>
+    ensures { IfOk result (λ made. made ≡ directory.now) }
+{
+    match directory {
+        Some(folder) => Ok(Some(FileName::of(alloc, folder.as_str())?)),
+        None => Ok(None),
+    }
+}
+
+/// Copies of names.
+fn copied_names(alloc: Global, names: &[FileName]) -> Result<Vec<FileName>, AllocError>
+    ensures { IfOk result (λ made. made.items ≡ names.now) }
+{
+    let mut made = Vec::new(alloc);
+    'names: for name in names {
+        made.push(FileName::of(alloc, name.as_str())?)?;
+    }
+    Ok(made)
+}
+
+impl Holding {
+    /// What holds for the first entry of the main file.
+    pub(crate) fn at_first(
+        alloc: Global,
+        directory: Option<&str>,
+        name: &str,
+        origin: &CasedName,
+    ) -> Result<Holding, AllocError>
+        ensures { IfOk result (λ made. made
+            ≡ at_first (option_map (λ folder. folder.now) directory.entry) name.now origin.now) }
+    {
+        let directory = directory_of(alloc, directory)?;
+        let mut open = Vec::new(alloc);
+        open.push(FileName::of(alloc, name)?)?;
+        Ok(Holding {
+            origin: origin.copy(),
+            owner: None,
+            stated: None,
+            directory,
+            open,
+            opened: 0,
+        })
+    }
+
+    /// What holds for the first entry of a file that is included. `None`: as many files were included
+    /// as may be.
+    ///
+    /// # Errors
+    ///
+    /// `AllocError`.
+    pub(crate) fn within(
+        &self,
+        alloc: Global,
+        name: &FileName,
+        origin: &CasedName,
+    ) -> Result<Option<Holding>, AllocError>
+        ensures some { IfOk result (λ made. IfSome made
+            (λ inner. inner ≡ within name.now origin.now self.now)) }
+        ensures none { IfOk result (λ made. IfNone made (MOST_OPENED ≤ self.now.opened)) }
+    {
+        if self.opened >= MOST_OPENED {
+            return Ok(None);
+        }
+        let directory = copied_directory(alloc, &self.directory)?;
+        let mut open = copied_names(alloc, &self.open)?;
+        open.push(FileName::of(alloc, name.as_str())?)?;
+        Ok(Some(Holding {
+            origin: origin.copy(),
+            owner: copied(&self.owner),
+            stated: copied(&self.stated),
+            directory,
+            open,
+            opened: self.opened + 1,
+        }))
+    }
+
+    /// Takes what an included file leaves.
+    pub(crate) fn back(&mut self, inner: &Holding)
+        ensures { self.new ≡ back_in self.old inner.now }
+    {
+        self.stated = copied(&inner.stated);
+        self.opened = inner.opened;
+    }
+}
