@@ -2,7 +2,10 @@
 ghost use Rattle.std.specs.Prelude.{◌≡◌, ◌++◌, ◌∷◌, ◌⊎◌, [], ℕ, List, Option};
 ghost use Rattle.zone_name.specs.Common.{AreOctets, Labels};
 ghost use Rattle.zone_name.specs.Name.{IsCasedName};
-ghost use Rattle.zone_files.specs.Expansion.{Ending, Files, HasNoInclude, IsExpanded};
+ghost use Rattle.zone_files.specs.Expansion.{Ending, Files, HasNoInclude, IsExpanded, at_first, breaks_off, ends, last_line, stops};
+ghost use Rattle.zone_files.specs.FileExpander.{ExpanderState, StandsFor};
+ghost use Rattle.zone_files.specs.declared.expansion.progress.FileStatus.TheVariants.{BrokenOff, Ended, Faulty};
+ghost use Rattle.zone_files.specs.declared.fault.ExpansionFault.{ExpansionFault};
 
 /// A main file and the files that it includes have at most one expanded text, which ends in one way.
 pub fn an_expanded_text_is_unique()
@@ -19,4 +22,22 @@ pub fn a_file_without_includes_stays()
         → (expanded : List ℕ) × (ending : Ending)
         × IsExpanded directory name origin octets files expanded ending
         × ((expanded ≡ octets) ⊎ (expanded ≡ octets ++ 10 ∷ [])) }
+{}
+
+/// What an expander of a main file gave for it once it has ended is the expanded text, and so is what
+/// it gave where the text broke; where an entry has a fault the last line comes after it.
+pub fn an_ended_expander_gives_the_expanded_text()
+    ensures ended { (directory : Option (List ℕ)) (name : List ℕ) (origin : Labels)
+        (s : ExpanderState) (fed : List ℕ) (files : Files) (given : List ℕ)
+        → StandsFor s (at_first directory name origin) fed files given → s.status ≡ Ended
+        → IsExpanded directory name origin fed files given (ends s.holds) }
+    ensures broken { (directory : Option (List ℕ)) (name : List ℕ) (origin : Labels)
+        (s : ExpanderState) (fed : List ℕ) (files : Files) (given : List ℕ)
+        → StandsFor s (at_first directory name origin) fed files given → s.status ≡ BrokenOff
+        → IsExpanded directory name origin fed files given breaks_off }
+    ensures faulty { (directory : Option (List ℕ)) (name : List ℕ) (origin : Labels)
+        (s : ExpanderState) (fed : List ℕ) (files : Files) (given : List ℕ)
+        (fault : ExpansionFault) → StandsFor s (at_first directory name origin) fed files given
+        → s.status ≡ Faulty fault → IsExpanded directory name origin fed files
+        (given ++ last_line (stops fault)) (stops fault) }
 {}
