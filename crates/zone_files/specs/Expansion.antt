@@ -1,7 +1,7 @@
 -- The expanded text of a master file and those that it includes (RFC 1035 5.1), entry by entry. A
 -- file is its octets here: no file system is part of the definition. `$GENERATE`, which is BIND's,
 -- isn't expanded: it stays, as every directive but `$INCLUDE` does.
-use Rattle.std.specs.Prelude.{◌≡◌, ℕ, zero, suc, ◌+◌, ◌<◌, List, [], ◌∷◌, ◌++◌, bytes_eq, codes, drop, false, length, Option, Some, None}
+use Rattle.std.specs.Prelude.{◌≡◌, ℕ, zero, ◌+◌, ◌<◌, List, [], ◌∷◌, ◌++◌, bytes_eq, codes, drop, false, length, Option, Some, None}
 use Rattle.std.specs.List.{AllByRecursion, flat_map, list_any}
 use Rattle.std.specs.Option.{option_or}
 use Rattle.zone_name.specs.Common.{Labels, NothingIs}

@@ -1,18 +1,16 @@
 -- How an expander follows the octets that it is fed.
-use Rattle.std.proofs.Common.{◌≡◌, ℕ, zero, ◌+◌, ◌<◌, ◌≤◌, List, [], ◌∷◌, ◌++◌, length, take, drop, Option, Some, None, Bool, true, false, refl, sym, ap, subst, ◌∙◌, append_assoc, append-nil, arith, length-append, take-append-drop, ◌⊎◌, inl, inr}
+use Rattle.std.proofs.Common.{◌≡◌, ℕ, zero, ◌<◌, List, [], ◌∷◌, ◌++◌, length, take, drop, Option, Some, None, Bool, true, false, refl, sym, ap, subst, ◌∙◌, append_assoc, append-nil, arith, take-append-drop}
 use Rattle.std.proofs.lemmas.List.{length-drop}
-use Rattle.std.specs.List.{flat_map}
 use Rattle.zone_rdata.specs.Item.{RawItem}
 use Rattle.zone_rdata.specs.declared.fault.Fault.{Fault}
-use Rattle.zone_text.specs.Entries.{cut_from, item_of}
+use Rattle.zone_text.specs.Entries.{cut_from}
 use Rattle.zone_text.specs.FirstEntry.{IsBrokenOff, IsFirstEntry, IsOneEntry}
-use Rattle.zone_text.specs.Kept.{AreKept}
 use Rattle.zone_text.specs.OpenEntry.{EndIs, EntryIs, HeldEntry, TakesFrom}
-use Rattle.zone_text.specs.Tokens.{Token, Cuts, line_feed, text}
-use Rattle.zone_text.specs.declared.open_entry.EntryState.TheVariants.{Broken, Ended, Open}
+use Rattle.zone_text.specs.Tokens.{Token, Cuts, line_feed}
+use Rattle.zone_text.specs.declared.open_entry.EntryState.TheVariants.{Broken, Ended}
 use Rattle.zone_text.specs.declared.open_entry.Taken.{Taken}
 use Rattle.zone_files.specs.Expansion.{Ending, Expands, Files, Holds, back_in, breaks_off, ends, file, no_files, origin_line, stops, within}
-use Rattle.zone_files.specs.FileExpander.{AfterInner, Continues, ExpanderState, GoesOn, IsOver, NamedFile, StandsBy, StandsFor, TakesIncluded, then}
+use Rattle.zone_files.specs.FileExpander.{AfterInner, Continues, GoesOn, IsOver, NamedFile, StandsBy, StandsFor, TakesIncluded, then}
 use Rattle.zone_files.specs.Machine.Expanding.{EntersLast, EntersOctets, Follows, IsExpander, TakesFront, TakesInner, TakesInnerBy, state_of}
 use Rattle.zone_files.specs.Machine.Progressing.{Entered, Enters, end_of, has_failed, has_opened, was_written}
 use Rattle.zone_files.specs.declared.fault.ExpansionFault.{ExpansionFault}

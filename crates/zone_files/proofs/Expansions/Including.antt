@@ -1,15 +1,13 @@
 -- What becomes of an `$INCLUDE`.
 use Rattle.std.specs.Prelude.{IfNone}
 use Rattle.zone_words.specs.Origin.{NamesOrigin}
-use Rattle.std.proofs.Common.{Bool, false, length, map, ◌==◌, ◌≡◌, ℕ, List, [], ◌∷◌, Option, Some, None, refl, sym, ap, subst, ◌∙◌}
+use Rattle.std.proofs.Common.{Bool, false, length, map, ◌==◌, ◌≡◌, ℕ, List, [], ◌∷◌, Option, Some, None, refl, sym, subst}
 use Rattle.zone_name.specs.Common.{Labels, NothingIs}
 use Rattle.zone_name.specs.Spelling.{SpellsCased}
-use Rattle.zone_rdata.specs.Item.{RawItem, bare, quoted, raw}
-use Rattle.zone_rdata.specs.Strings.{item_text}
+use Rattle.zone_rdata.specs.Item.{RawItem, bare, raw}
 use Rattle.zone_rdata.specs.declared.item.Item.{Item}
-use Rattle.zone_rdata.specs.declared.item.Item.TheVariants as variants
 use Rattle.zone_words.specs.Inherited.{IsOneOrNone}
-use Rattle.zone_files.specs.Expansion.{Holds, Includes, MayOpen, SpellsOwner, StatesInclude, bad_include, bad_name, fails, is_opened, opens, too_many}
+use Rattle.zone_files.specs.Expansion.{Holds, Includes, MayOpen, SpellsOwner, StatesInclude, bad_name, fails, is_opened, opens, too_many}
 use Rattle.zone_files.specs.FileName.{NamesFile}
 use Rattle.zone_files.specs.FileNameRefusal.{RefusesName}
 use Rattle.zone_files.specs.Machine.Stepping.{included}

@@ -1,15 +1,14 @@
 -- Where some of very many items are left out, the same becomes of an entry.
-use Rattle.std.proofs.Common.{◌≡◌, ℕ, ◌≤◌, List, [], ◌∷◌, ◌++◌, Option, Some, None, Bool, true, false, if◌then◌else◌, bytes_eq, codes, ◌==◌, length, refl, sym, ap, subst, ◌∙◌, arith, ◌⊎◌, inl, inr}
+use Rattle.std.proofs.Common.{ℕ, ◌≤◌, List, [], ◌∷◌, ◌++◌, Option, Some, None, Bool, true, false, if◌then◌else◌, bytes_eq, codes, ◌==◌, length, sym, subst, arith, inl, inr}
 use Rattle.zone_name.specs.Common.{Labels, NothingIs}
 use Rattle.zone_name.specs.Name.{folded_label}
 use Rattle.zone_rdata.specs.Spelling.{RawItem, bare, quoted}
-use Rattle.zone_rdata.specs.LeftOut.{AreShortened}
 use Rattle.zone_text.specs.Kept.{AreKept}
-use Rattle.zone_text.specs.Statements.{Statement, directive, includes, owned, sets_origin, sets_ttl, statement_by, unknown, unowned}
+use Rattle.zone_text.specs.Statements.{Statement, directive, statement_by}
 use Rattle.zone_text.specs.Tokens.{is_blank}
 use Rattle.zone_words.specs.Inherited.{IsOneOrNone}
 use Rattle.zone_words.specs.Origin.{NamesOrigin}
-use Rattle.zone_files.specs.Expansion.{Holds, Included, Includes, Outcome, StatementBecomes, StatesInclude, bad_include, bad_name, is_opened, too_many}
+use Rattle.zone_files.specs.Expansion.{Holds, Includes, Outcome, StatementBecomes, StatesInclude, bad_include, bad_name, is_opened, too_many}
 
 module _ (h : Holds) (entry : List ℕ) (outcome : Outcome) where
   if_both : (Alike : Statement → Statement → Type 0) (test : Bool) (a b c d : Statement) → Alike a c → Alike b d → Alike (if test then a else b) (if test then c else d)

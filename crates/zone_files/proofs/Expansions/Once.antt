@@ -1,12 +1,10 @@
 -- There is one expanded text.
-use Rattle.std.proofs.Common.{◌≡◌, ℕ, zero, List, [], ◌∷◌, ◌++◌, Option, Some, None, refl, sym, ap, subst, ◌∙◌, codes}
-use Rattle.std.specs.List.{AllByRecursion, flat_map}
+use Rattle.std.proofs.Common.{◌≡◌, ℕ, zero, List, [], ◌∷◌, ◌++◌, Option, Some, None, refl, sym, ap, subst, ◌∙◌}
+use Rattle.std.specs.List.{flat_map}
 use Rattle.std.specs.Prelude.{drop}
-use Rattle.std.specs.Option.{option_or}
 use Rattle.zone_name.proofs.Spelling.Answered.{SpellsCased-once}
-use Rattle.zone_name.specs.Common.{AtMostOneIs, Labels, NothingIs}
+use Rattle.zone_name.specs.Common.{AtMostOneIs, Labels}
 use Rattle.zone_name.specs.Text.{name_text}
-use Rattle.zone_name.specs.Spelling.{SpellsCased}
 use Rattle.zone_rdata.specs.Spelling.{RawItem, bare, quoted}
 use Rattle.zone_text.proofs.Common.{append_cancel_left}
 use Rattle.zone_text.proofs.Tokens.Cuttings.{cut_not_broken, one_break, one_cut}

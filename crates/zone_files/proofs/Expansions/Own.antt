@@ -24,7 +24,7 @@ use Rattle.zone_text.specs.Tokens.{Token, Cuts, blank, closing, comment, is_blan
 use Rattle.zone_text.specs.Tokens as tokens
 use Rattle.zone_words.specs.Inherited.{IsOneOrNone}
 use Rattle.zone_words.specs.Origin.{NamesOrigin}
-use Rattle.zone_files.specs.Expansion.{EachExpands, Ending, EntryBecomes, Expanding, Expands, Files, HasNoInclude, Holds, IsExpanded, IsFile, Opening, SpellsOwner, StatementBecomes, WithOwner, at_first, breaks_off, broken, each_with_line_feed, ends, last_line, owned_by, same, stays, under, whole}
+use Rattle.zone_files.specs.Expansion.{EachExpands, Ending, Expanding, Files, HasNoInclude, Holds, IsExpanded, IsFile, Opening, SpellsOwner, StatementBecomes, at_first, breaks_off, broken, each_with_line_feed, ends, last_line, owned_by, same, stays, under, whole}
 
 -- ---- names, or none
 

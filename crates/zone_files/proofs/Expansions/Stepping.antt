@@ -1,13 +1,13 @@
 -- What becomes of an entry, as the code has it.
-use Rattle.std.proofs.Common.{◌≡◌, ℕ, List, [], ◌∷◌, ◌++◌, Option, Some, None, refl, sym, ap, subst, ◌∙◌, append_assoc}
+use Rattle.std.proofs.Common.{◌≡◌, ℕ, List, ◌++◌, Option, Some, None, refl, sym, ap, subst, ◌∙◌, append_assoc}
 use Rattle.std.specs.List.{slice_get}
 use Rattle.std.specs.Prelude.{drop}
 use Rattle.zone_name.specs.Common.{Labels}
 use Rattle.zone_name.specs.Text.{name_text}
 use Rattle.zone_rdata.specs.Item.{RawItem}
 use Rattle.zone_text.specs.Statements.{Statement, includes, statement_by, unowned}
-use Rattle.zone_files.specs.Expansion.{Holds, Includes, Outcome, StatementBecomes, WithOwner, another, fails, none, opens, same, stays}
-use Rattle.zone_files.specs.Machine.Stepping.{IncludesAs, IsLeft, IsWritten, StepsTo, TakesEntry, Unowned}
+use Rattle.zone_files.specs.Expansion.{Holds, StatementBecomes, another, fails, none, opens, same, stays}
+use Rattle.zone_files.specs.Machine.Stepping.{IncludesAs, TakesEntry, Unowned}
 use Rattle.zone_files.specs.declared.expansion.step.Step.{Step}
 use Rattle.zone_files.specs.declared.expansion.step.Step.TheVariants as steps
 use Rattle.zone_files.specs.declared.fault.ExpansionFault.TheVariants as faults

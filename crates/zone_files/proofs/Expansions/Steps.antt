@@ -1,5 +1,5 @@
 -- What an entry, and what follows it, make of a file.
-use Rattle.std.proofs.Common.{◌≡◌, ℕ, zero, List, [], ◌∷◌, ◌++◌, Option, Some, None, Bool, true, false, refl, sym, ap, subst, ◌∙◌, append_assoc, append-nil, ◌⊎◌, inl, inr}
+use Rattle.std.proofs.Common.{◌≡◌, ℕ, zero, List, [], ◌∷◌, ◌++◌, Option, Some, None, true, false, refl, sym, ap, subst, ◌∙◌, append_assoc, append-nil, inl}
 use Rattle.std.specs.List.{flat_map}
 use Rattle.zone_name.specs.Common.{Labels}
 use Rattle.zone_rdata.specs.declared.fault.Fault.{Fault}
@@ -12,8 +12,8 @@ use Rattle.zone_text.specs.Entries.{Cut, cut_from}
 use Rattle.zone_text.specs.FirstEntry.{IsBrokenOff, IsOneEntry}
 use Rattle.zone_text.specs.Tokens.{Token, Cuts, line_feed, text}
 use Rattle.zone_words.proofs.Files.{closed}
-use Rattle.zone_files.specs.Expansion.{AfterIncluded, EachExpands, Ending, EntryBecomes, Expands, Files, Holds, Inside, IsFile, Opening, back_in, breaks_off, broken, each_with_line_feed, ends, fails, file, no_files, opens, origin_line, stays, stops, wants, whole, within}
-use Rattle.zone_files.specs.FileExpander.{AfterInner, Awaits, Continues, ExpanderState, NamedFile, then}
+use Rattle.zone_files.specs.Expansion.{AfterIncluded, EachExpands, Ending, EntryBecomes, Expands, Files, Holds, IsFile, Opening, back_in, breaks_off, broken, each_with_line_feed, ends, fails, file, no_files, opens, origin_line, stays, stops, wants, whole, within}
+use Rattle.zone_files.specs.FileExpander.{AfterInner, Continues, then}
 use Rattle.zone_files.specs.declared.fault.ExpansionFault.{ExpansionFault}
 
 -- ---- the entries of a file

@@ -1,12 +1,11 @@
 -- What an entry makes of how far a file is.
-use Rattle.std.specs.Prelude.{◌≡◌, ℕ, List, [], ◌++◌, Bool, true, false, Option, Some, option_map}
+use Rattle.std.specs.Prelude.{◌≡◌, ℕ, List, ◌++◌, Bool, true, false, Option, Some, option_map}
 use Rattle.std.specs.List.{flat_map}
-use Rattle.zone_name.specs.Common.{Labels}
 use Rattle.zone_rdata.specs.Item.{RawItem}
 use Rattle.zone_text.specs.Entries.{item_of}
 use Rattle.zone_text.specs.Kept.{AreKept}
 use Rattle.zone_text.specs.Tokens.{Token, text}
-use Rattle.zone_files.specs.Expansion.{EntryBecomes, Holds, fails, opens, origin_line, stays}
+use Rattle.zone_files.specs.Expansion.{EntryBecomes, fails, opens, origin_line, stays}
 use Rattle.zone_files.specs.FileExpander.{NamedFile}
 use Rattle.zone_files.specs.declared.fault.ExpansionFault.{ExpansionFault}
 use Rattle.zone_files.specs.declared.expansion.progress.FileStatus.{FileStatus}

@@ -1,6 +1,5 @@
 use Rattle.std.proofs.Common.{map, ap, refl}
 use Rattle.zone_rdata.specs.Item.{raw}
-use Rattle.zone_text.proofs.Entries.Begun.{none_left, some_left}
 use Rattle.zone_files.proofs.Expansions.Including.{if_none, items_left, no_include}
 use Rattle.zone_files.proofs.expansion.including.stated_include.Goals as goal
 

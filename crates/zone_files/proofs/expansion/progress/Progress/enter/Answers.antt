@@ -1,4 +1,4 @@
-use Rattle.std.proofs.Common.{◌∙◌, ap, refl, map}
+use Rattle.std.proofs.Common.{refl, map}
 use Rattle.zone_rdata.specs.Item.{raw}
 use Rattle.zone_files.proofs.Expansions.Progressing.{entered_failed, entered_opened, entered_written}
 use Rattle.zone_files.proofs.expansion.progress.Progress.enter.Goals as goal
