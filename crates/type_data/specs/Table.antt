@@ -138,20 +138,19 @@ abbrev pub type_registry : List RegisteredType
 type_registry =
     name_only 1 (codes "A")
     ∷ name_only 2 (codes "NS")
-    ∷ in_every 3 (codes "MD") (field (codes "madname") (Bare Name) ∷ [])  -- RFC 1035 3.3.4
-    ∷ in_every 4 (codes "MF") (field (codes "madname") (Bare Name) ∷ [])  -- RFC 1035 3.3.5
+    ∷ name_only 3 (codes "MD")
+    ∷ name_only 4 (codes "MF")
     ∷ name_only 5 (codes "CNAME")
     ∷ name_only 6 (codes "SOA")
-    ∷ in_every 7 (codes "MB") (field (codes "madname") (Bare Name) ∷ [])  -- RFC 1035 3.3.3
-    ∷ in_every 8 (codes "MG") (field (codes "mgmname") (Bare Name) ∷ [])  -- RFC 1035 3.3.6
-    ∷ in_every 9 (codes "MR") (field (codes "newname") (Bare Name) ∷ [])  -- RFC 1035 3.3.8
+    ∷ name_only 7 (codes "MB")
+    ∷ name_only 8 (codes "MG")
+    ∷ name_only 9 (codes "MR")
     ∷ name_only 10 (codes "NULL")
     ∷ name_only 11 (codes "WKS")
     ∷ name_only 12 (codes "PTR")
     ∷ in_every 13 (codes "HINFO")  -- RFC 1035 3.3.2
     (field (codes "cpu") OneString ∷ field (codes "os") OneString ∷ [])
-    ∷ in_every 14 (codes "MINFO")  -- RFC 1035 3.3.7
-    (field (codes "rmailbx") (Bare Name) ∷ field (codes "emailbx") (Bare Name) ∷ [])
+    ∷ name_only 14 (codes "MINFO")
     ∷ name_only 15 (codes "MX")
     ∷ name_only 16 (codes "TXT")
     ∷ in_every 17 (codes "RP")  -- RFC 1183 2.2
@@ -164,28 +163,16 @@ type_registry =
     ∷ in_every 21 (codes "RT")  -- RFC 1183 3.3
     (field (codes "preference") (Bare U16) ∷ field (codes "host") (Bare Name) ∷ [])
     ∷ name_only 22 (codes "NSAP")
-    ∷ in_internet 23 (codes "NSAP-PTR") (field (codes "data") (Bare Name) ∷ [])  -- RFC 1348
-    ∷ in_every 24 (codes "SIG")  -- RFC 2535 4.1
-    (field (codes "type covered") (Bare RecordType) ∷ field (codes "algorithm") (Bare Algorithm)
-    ∷ field (codes "labels") (Bare U8) ∷ field (codes "original ttl") (Bare U32)
-    ∷ field (codes "expiration") (Bare Time) ∷ field (codes "inception") (Bare Time)
-    ∷ field (codes "key tag") (Bare U16) ∷ field (codes "signer") (Bare Name)
-    ∷ field (codes "signature") Base64 ∷ [])
-    ∷ in_every 25 (codes "KEY")  -- RFC 2535 3
-    (field (codes "flags") (Bare U16) ∷ field (codes "protocol") (Bare U8)
-    ∷ field (codes "algorithm") (Bare Algorithm) ∷ field (codes "public key") Base64 ∷ [])
-    ∷ in_internet 26 (codes "PX")  -- RFC 2163 4
-    (field (codes "preference") (Bare U16) ∷ field (codes "map822") (Bare Name)
-    ∷ field (codes "mapx400") (Bare Name) ∷ [])
-    ∷ in_every 27 (codes "GPOS")  -- RFC 1712 3
-    (field (codes "longitude") OneString ∷ field (codes "latitude") OneString
-    ∷ field (codes "altitude") OneString ∷ [])
+    ∷ name_only 23 (codes "NSAP-PTR")
+    ∷ name_only 24 (codes "SIG")
+    ∷ name_only 25 (codes "KEY")
+    ∷ name_only 26 (codes "PX")
+    ∷ name_only 27 (codes "GPOS")
     ∷ name_only 28 (codes "AAAA")
     ∷ in_every 29 (codes "LOC") (field (codes "data") Location ∷ [])  -- RFC 1876 3
     ∷ name_only 30 (codes "NXT")
-    ∷ in_every 31 (codes "EID") (field (codes "data") Hex ∷ [])  -- the IANA registry of types, 1995
-    ∷ in_every 32 (codes "NIMLOC")  -- the IANA registry of types, 1995
-    (field (codes "data") Hex ∷ [])
+    ∷ name_only 31 (codes "EID")
+    ∷ name_only 32 (codes "NIMLOC")
     ∷ name_only 33 (codes "SRV")
     ∷ name_only 34 (codes "ATMA")
     ∷ name_only 35 (codes "NAPTR")
@@ -196,9 +183,7 @@ type_registry =
     ∷ field (codes "algorithm") (Bare Algorithm) ∷ field (codes "certificate") Base64 ∷ [])
     ∷ name_only 38 (codes "A6")
     ∷ in_every 39 (codes "DNAME") (field (codes "target") (Bare Name) ∷ [])  -- RFC 6672 2.1
-    ∷ in_every 40 (codes "SINK")  -- the IANA registry of types, 1997
-    (field (codes "meaning") (Bare U8) ∷ field (codes "coding") (Bare U8)
-    ∷ field (codes "subcoding") (Bare U8) ∷ field (codes "data") Base64 ∷ [])
+    ∷ name_only 40 (codes "SINK")
     ∷ in_internet 42 (codes "APL") (field (codes "data") Prefixes ∷ [])  -- RFC 3123 4, 5
     ∷ in_every 43 (codes "DS")  -- RFC 4034 5.3
     (field (codes "key tag") (Bare U16) ∷ field (codes "algorithm") (Bare Algorithm)
@@ -233,13 +218,9 @@ type_registry =
     (field (codes "usage") (Bare U8) ∷ field (codes "selector") (Bare U8)
     ∷ field (codes "matching type") (Bare U8) ∷ field (codes "data") Hex ∷ [])
     ∷ of_its_own 55 (codes "HIP") of_hip
-    ∷ in_every 56 (codes "NINFO")  -- the IANA registry of types, 2008
-    (field (codes "data") Strings ∷ [])
-    ∷ in_every 57 (codes "RKEY")  -- the IANA registry of types, 2008
-    (field (codes "flags") (Bare U16) ∷ field (codes "protocol") (Bare U8)
-    ∷ field (codes "algorithm") (Bare Algorithm) ∷ field (codes "public key") Base64 ∷ [])
-    ∷ in_every 58 (codes "TALINK")  -- the IANA registry of types, 2010
-    (field (codes "previous") (Bare Name) ∷ field (codes "next") (Bare Name) ∷ [])
+    ∷ name_only 56 (codes "NINFO")
+    ∷ name_only 57 (codes "RKEY")
+    ∷ name_only 58 (codes "TALINK")
     ∷ in_every 59 (codes "CDS")  -- RFC 7344 3.1
     (field (codes "key tag") (Bare U16) ∷ field (codes "algorithm") (Bare Algorithm)
     ∷ field (codes "digest type") (Bare U8) ∷ field (codes "digest") Hex ∷ [])
@@ -286,17 +267,12 @@ type_registry =
     ∷ name_only 258 (codes "AVC")
     ∷ name_only 259 (codes "DOA")
     ∷ of_its_own 260 (codes "AMTRELAY") of_amtrelay
-    ∷ in_every 261 (codes "RESINFO") (field (codes "data") Strings ∷ [])  -- RFC 9606 4
-    ∷ in_every 262 (codes "WALLET")  -- the IANA registry of types, 2024
-    (field (codes "data") Strings ∷ [])
+    ∷ name_only 261 (codes "RESINFO")
+    ∷ name_only 262 (codes "WALLET")
     ∷ name_only 263 (codes "CLA")
     ∷ name_only 264 (codes "IPN")
-    ∷ in_every 32768 (codes "TA")  -- the IANA registry of types, 2005
-    (field (codes "key tag") (Bare U16) ∷ field (codes "algorithm") (Bare Algorithm)
-    ∷ field (codes "digest type") (Bare U8) ∷ field (codes "digest") Hex ∷ [])
-    ∷ in_every 32769 (codes "DLV")  -- RFC 4431 2
-    (field (codes "key tag") (Bare U16) ∷ field (codes "algorithm") (Bare Algorithm)
-    ∷ field (codes "digest type") (Bare U8) ∷ field (codes "digest") Hex ∷ [])
+    ∷ name_only 32768 (codes "TA")
+    ∷ name_only 32769 (codes "DLV")
     ∷ []
 
 -- their numbers and mnemonics

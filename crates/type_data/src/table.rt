@@ -152,28 +152,13 @@ fn further_type_counted(number: u64) -> Option<&'static FurtherType>
 pub(crate) static TYPES: &[RegisteredType] = &[
     NameOnly(Mnemonic(1, b"A")),
     NameOnly(Mnemonic(2, b"NS")),
-    // RFC 1035 3.3.4
-    InWords(FurtherType { number: 3, mnemonic: "MD", in_internet_alone: false, fields: Same(&[
-        Field("madname", Bare(Name)),
-    ]) }),
-    // RFC 1035 3.3.5
-    InWords(FurtherType { number: 4, mnemonic: "MF", in_internet_alone: false, fields: Same(&[
-        Field("madname", Bare(Name)),
-    ]) }),
+    NameOnly(Mnemonic(3, b"MD")),
+    NameOnly(Mnemonic(4, b"MF")),
     NameOnly(Mnemonic(5, b"CNAME")),
     NameOnly(Mnemonic(6, b"SOA")),
-    // RFC 1035 3.3.3
-    InWords(FurtherType { number: 7, mnemonic: "MB", in_internet_alone: false, fields: Same(&[
-        Field("madname", Bare(Name)),
-    ]) }),
-    // RFC 1035 3.3.6
-    InWords(FurtherType { number: 8, mnemonic: "MG", in_internet_alone: false, fields: Same(&[
-        Field("mgmname", Bare(Name)),
-    ]) }),
-    // RFC 1035 3.3.8
-    InWords(FurtherType { number: 9, mnemonic: "MR", in_internet_alone: false, fields: Same(&[
-        Field("newname", Bare(Name)),
-    ]) }),
+    NameOnly(Mnemonic(7, b"MB")),
+    NameOnly(Mnemonic(8, b"MG")),
+    NameOnly(Mnemonic(9, b"MR")),
     NameOnly(Mnemonic(10, b"NULL")),
     NameOnly(Mnemonic(11, b"WKS")),
     NameOnly(Mnemonic(12, b"PTR")),
@@ -181,10 +166,7 @@ pub(crate) static TYPES: &[RegisteredType] = &[
     InWords(FurtherType { number: 13, mnemonic: "HINFO", in_internet_alone: false, fields: Same(&[
         Field("cpu", OneString), Field("os", OneString),
     ]) }),
-    // RFC 1035 3.3.7
-    InWords(FurtherType { number: 14, mnemonic: "MINFO", in_internet_alone: false, fields: Same(&[
-        Field("rmailbx", Bare(Name)), Field("emailbx", Bare(Name)),
-    ]) }),
+    NameOnly(Mnemonic(14, b"MINFO")),
     NameOnly(Mnemonic(15, b"MX")),
     NameOnly(Mnemonic(16, b"TXT")),
     // RFC 1183 2.2
@@ -208,44 +190,19 @@ pub(crate) static TYPES: &[RegisteredType] = &[
         Field("preference", Bare(U16)), Field("host", Bare(Name)),
     ]) }),
     NameOnly(Mnemonic(22, b"NSAP")),
-    // RFC 1348
-    InWords(FurtherType { number: 23, mnemonic: "NSAP-PTR", in_internet_alone: true, fields: Same(&[
-        Field("data", Bare(Name)),
-    ]) }),
-    // RFC 2535 4.1
-    InWords(FurtherType { number: 24, mnemonic: "SIG", in_internet_alone: false, fields: Same(&[
-        Field("type covered", Bare(RecordType)), Field("algorithm", Bare(Algorithm)),
-        Field("labels", Bare(U8)), Field("original ttl", Bare(U32)),
-        Field("expiration", Bare(Time)), Field("inception", Bare(Time)),
-        Field("key tag", Bare(U16)), Field("signer", Bare(Name)), Field("signature", Base64),
-    ]) }),
-    // RFC 2535 3
-    InWords(FurtherType { number: 25, mnemonic: "KEY", in_internet_alone: false, fields: Same(&[
-        Field("flags", Bare(U16)), Field("protocol", Bare(U8)),
-        Field("algorithm", Bare(Algorithm)), Field("public key", Base64),
-    ]) }),
-    // RFC 2163 4
-    InWords(FurtherType { number: 26, mnemonic: "PX", in_internet_alone: true, fields: Same(&[
-        Field("preference", Bare(U16)), Field("map822", Bare(Name)), Field("mapx400", Bare(Name)),
-    ]) }),
-    // RFC 1712 3
-    InWords(FurtherType { number: 27, mnemonic: "GPOS", in_internet_alone: false, fields: Same(&[
-        Field("longitude", OneString), Field("latitude", OneString), Field("altitude", OneString),
-    ]) }),
+    NameOnly(Mnemonic(23, b"NSAP-PTR")),
+    NameOnly(Mnemonic(24, b"SIG")),
+    NameOnly(Mnemonic(25, b"KEY")),
+    NameOnly(Mnemonic(26, b"PX")),
+    NameOnly(Mnemonic(27, b"GPOS")),
     NameOnly(Mnemonic(28, b"AAAA")),
     // RFC 1876 3
     InWords(FurtherType { number: 29, mnemonic: "LOC", in_internet_alone: false, fields: Same(&[
         Field("data", Location),
     ]) }),
     NameOnly(Mnemonic(30, b"NXT")),
-    // The IANA registry of types, 1995
-    InWords(FurtherType { number: 31, mnemonic: "EID", in_internet_alone: false, fields: Same(&[
-        Field("data", Hex),
-    ]) }),
-    // The IANA registry of types, 1995
-    InWords(FurtherType { number: 32, mnemonic: "NIMLOC", in_internet_alone: false, fields: Same(&[
-        Field("data", Hex),
-    ]) }),
+    NameOnly(Mnemonic(31, b"EID")),
+    NameOnly(Mnemonic(32, b"NIMLOC")),
     NameOnly(Mnemonic(33, b"SRV")),
     NameOnly(Mnemonic(34, b"ATMA")),
     NameOnly(Mnemonic(35, b"NAPTR")),
@@ -263,11 +220,7 @@ pub(crate) static TYPES: &[RegisteredType] = &[
     InWords(FurtherType { number: 39, mnemonic: "DNAME", in_internet_alone: false, fields: Same(&[
         Field("target", Bare(Name)),
     ]) }),
-    // The IANA registry of types, 1997
-    InWords(FurtherType { number: 40, mnemonic: "SINK", in_internet_alone: false, fields: Same(&[
-        Field("meaning", Bare(U8)), Field("coding", Bare(U8)), Field("subcoding", Bare(U8)),
-        Field("data", Base64),
-    ]) }),
+    NameOnly(Mnemonic(40, b"SINK")),
     // RFC 3123 4, 5
     InWords(FurtherType { number: 42, mnemonic: "APL", in_internet_alone: true, fields: Same(&[
         Field("data", Prefixes),
@@ -327,19 +280,9 @@ pub(crate) static TYPES: &[RegisteredType] = &[
     ]) }),
     // RFC 8005 6
     InWords(FurtherType { number: 55, mnemonic: "HIP", in_internet_alone: false, fields: Hip }),
-    // The IANA registry of types, 2008
-    InWords(FurtherType { number: 56, mnemonic: "NINFO", in_internet_alone: false, fields: Same(&[
-        Field("data", Strings),
-    ]) }),
-    // The IANA registry of types, 2008
-    InWords(FurtherType { number: 57, mnemonic: "RKEY", in_internet_alone: false, fields: Same(&[
-        Field("flags", Bare(U16)), Field("protocol", Bare(U8)),
-        Field("algorithm", Bare(Algorithm)), Field("public key", Base64),
-    ]) }),
-    // The IANA registry of types, 2010
-    InWords(FurtherType { number: 58, mnemonic: "TALINK", in_internet_alone: false, fields: Same(&[
-        Field("previous", Bare(Name)), Field("next", Bare(Name)),
-    ]) }),
+    NameOnly(Mnemonic(56, b"NINFO")),
+    NameOnly(Mnemonic(57, b"RKEY")),
+    NameOnly(Mnemonic(58, b"TALINK")),
     // RFC 7344 3.1
     InWords(FurtherType { number: 59, mnemonic: "CDS", in_internet_alone: false, fields: Same(&[
         Field("key tag", Bare(U16)), Field("algorithm", Bare(Algorithm)),
@@ -420,25 +363,10 @@ pub(crate) static TYPES: &[RegisteredType] = &[
     // RFC 8777 4.3
     InWords(FurtherType { number: 260, mnemonic: "AMTRELAY", in_internet_alone: false,
         fields: Amtrelay }),
-    // RFC 9606 4
-    InWords(FurtherType { number: 261, mnemonic: "RESINFO", in_internet_alone: false,
-        fields: Same(&[
-        Field("data", Strings),
-    ]) }),
-    // The IANA registry of types, 2024
-    InWords(FurtherType { number: 262, mnemonic: "WALLET", in_internet_alone: false, fields: Same(&[
-        Field("data", Strings),
-    ]) }),
+    NameOnly(Mnemonic(261, b"RESINFO")),
+    NameOnly(Mnemonic(262, b"WALLET")),
     NameOnly(Mnemonic(263, b"CLA")),
     NameOnly(Mnemonic(264, b"IPN")),
-    // The IANA registry of types, 2005
-    InWords(FurtherType { number: 32768, mnemonic: "TA", in_internet_alone: false, fields: Same(&[
-        Field("key tag", Bare(U16)), Field("algorithm", Bare(Algorithm)),
-        Field("digest type", Bare(U8)), Field("digest", Hex),
-    ]) }),
-    // RFC 4431 2
-    InWords(FurtherType { number: 32769, mnemonic: "DLV", in_internet_alone: false, fields: Same(&[
-        Field("key tag", Bare(U16)), Field("algorithm", Bare(Algorithm)),
-        Field("digest type", Bare(U8)), Field("digest", Hex),
-    ]) }),
+    NameOnly(Mnemonic(32768, b"TA")),
+    NameOnly(Mnemonic(32769, b"DLV")),
 ];
