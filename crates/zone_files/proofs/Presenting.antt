@@ -5,3 +5,4 @@ pub mod Readers
 pub mod Compared
 pub mod Written
 pub mod OneReport
+pub mod Normalised

@@ -1,5 +1,6 @@
 //! Laws over the definitions alone.
 ghost use Rattle.std.specs.Prelude.{◌≡◌, ◌↔◌, ◌≤◌, ℕ, List, [], Option, length};
+ghost use Rattle.std.specs.Io.KnownBytes.{Appends};
 ghost use Rattle.zone_name.specs.Common.{AreOctets, AtMostOneIs, Labels, NothingIs};
 ghost use Rattle.zone_name.specs.Name.{IsCasedName, folded};
 ghost use Rattle.zone_rdata.specs.declared.fault.Fault.{Fault};
@@ -10,7 +11,11 @@ ghost use Rattle.zone_engine.specs.Headline.{DenotesOnly};
 ghost use Rattle.zone_engine.specs.Input.{InputDenotes, file};
 ghost use Rattle.zone_words.specs.NoFurther.{HasNoFurtherWord};
 ghost use Rattle.zone_words.specs.Rewriting.{Refused};
+ghost use Rattle.zone_engine.specs.declared.comparison.Verdict.{Verdict};
+ghost use Rattle.zone_engine.specs.declared.comparison.Verdict.TheVariants.{Same};
+ghost use Rattle.zone_files.specs.Loading.Compare.{ComparesSources};
 ghost use Rattle.zone_files.specs.Loading.Reading.{IsReportedSource};
+ghost use Rattle.zone_files.specs.Normalise.{NormalisesSource, NormalisesSourceTo};
 ghost use Rattle.words_print.specs.Shown.{IsShownText};
 ghost use Rattle.zone_files.specs.Presentation.{
   AreOneZone,
@@ -116,4 +121,18 @@ pub fn presentation_headline()
     a_canonical_text_comes_back();
     refusal_or_zone();
     no_zone_of_a_refused_input();
+}
+
+/// What two sources normalise to is equal exactly if they denote one zone, and it is what was
+/// written; and a comparison finds them the same exactly then.
+pub fn normalised_sources()
+    ensures same { (a b : Source) (text other : List ℕ) → IsSource a → IsSource b
+        → NormalisesSourceTo a text → NormalisesSourceTo b other → (text ≡ other) ↔ AreOneZone a b }
+    ensures written { (source : Source) (old new : Option (List ℕ)) (count : ℕ)
+        → NormalisesSource source old new count
+        → (text : List ℕ) × NormalisesSourceTo source text × Appends old new text }
+    ensures compared { (a b : Source) (verdict : Verdict) → IsSource a → IsSource b
+        → ComparesSources a b verdict → (verdict ≡ Same) ↔ AreOneZone a b }
+{
+    presentation_headline();
 }
