@@ -1,5 +1,7 @@
-//! Lines of `$GENERATE`: entries, ranges, templates and numbers. What is wanted is what BIND 9.18
-//! makes of the same entries.
+//! Lines of `$GENERATE`: entries, ranges, templates and numbers. What is wanted of templates and
+//! numbers is what BIND 9.18 makes of them; of quotes, items and faults it follows from the rules.
+ghost use Rattle.std.specs.Prelude.{◌<◌, ◌^◌, IfOk};
+
 use std::alloc::Global;
 use std::test::Fail;
 use test_support::{
@@ -184,11 +186,13 @@ fn a_value_is_refused_after_lines(rt: HostRuntime) -> Result<(), Fail> {
     check_table::<Lines>(rt.alloc(), LATER)
 }
 
-/// The value of a number, or a fault.
-fn value_of(text: &str) -> Result<u64, Fail> {
+/// The value of a number, which is one of a range: below 2^31.
+fn value_of(text: &str) -> Result<u64, Fail>
+    ensures { IfOk result (λ value. value < 2 ^ 31) }
+{
     match text.parse::<u32>() {
-        Ok(value) => Ok(u64::from(value) % 2147483648),
-        Err(_) => Err(Fail::from("a value")),
+        Ok(value) if value < 2147483648 => Ok(u64::from(value)),
+        _ => Err(Fail::from("a value")),
     }
 }
 

@@ -77,8 +77,7 @@ impl Question for Expanded {
 }
 
 /// Files and their expanded texts: `== ` stands before each main file, `--` before the text of the
-/// files that it includes, and `=>` before what becomes of them, with the fault behind it. The first
-/// is the example of the page on master files, without its `$GENERATE`s.
+/// files that it includes, and `=>` before what becomes of them, with the fault behind it.
 const TEXTS: &str = "\
 == $TTL 1h
 @     SOA  ns1 hostmaster 2026113001 2h 30m 2w 1h

@@ -140,7 +140,7 @@ impl Question for Told {
     }
 }
 
-/// Lines, as the page on `zonefile` has them.
+/// Lines of faults and of what can't be read.
 const LINES: &str = "\
 == data
 =>F9 BadRdata at parts/bad.db:3: the data doesn't fit its type
@@ -165,7 +165,7 @@ fn lines_of_faults_in_files(rt: HostRuntime) -> Result<(), Fail> {
     check_table::<Told>(rt.alloc(), LINES)
 }
 
-/// The place of a line of the expanded text that the page shows, of 0 to 20.
+/// The place of a line of an expanded text of 20 lines, of 0 to 20.
 struct Placed;
 
 /// The place of the first line of a stretch.
@@ -215,7 +215,7 @@ impl Question for Placed {
     }
 }
 
-/// File, line and value of lines of the expanded text that the page shows.
+/// File, line and value of each line of that expanded text.
 const PLACES: &str = "\
 == 0
 =>none
