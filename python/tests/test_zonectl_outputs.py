@@ -140,7 +140,10 @@ class Differences(InFolder):
         self.assertIn("\x1b[32m  + 60 A 192.0.2.1\x1b[0m\n", lit)
         for term, no_color, wanted in (("xterm", "", lit), ("xterm", "1", plain), ("dumb", "", plain)):
             given = environment(TERM=term, NO_COLOR=no_color)
-            terminal, other = pty.openpty()
+            try:
+                terminal, other = pty.openpty()
+            except OSError:  # a root without devices
+                self.skipTest("no terminal can be made")
             subprocess.run(command("diff", "a", "b"), stdout=other, env=given, check=False)
             os.close(other)
             shown = os.read(terminal, 10000).decode().replace("\r\n", "\n")
