@@ -2,8 +2,6 @@
 from __future__ import annotations
 
 import mmap
-from collections.abc import Iterator
-from contextlib import contextmanager
 from ctypes import byref
 from typing import Final, NamedTuple
 
@@ -31,18 +29,23 @@ class Comparison(NamedTuple):
         raise TypeError("a Comparison has no truth value: use its attribute `same`")
 
 
-@contextmanager
-def given(data: Buffer, origin: str, words: bool, max_octets: int | None) -> Iterator[_ffi.Input]:
-    """Lend an input to the library."""
-    if max_octets is not None and max_octets < 1:
-        raise ValueError("max_octets is less than 1")
-    try:
-        name = origin.encode("ascii")
-    except UnicodeEncodeError:
-        raise OriginError(f"{origin!r} is no absolute name") from None
-    kind = _ffi.TRANSFER if origin == TRANSFER else _ffi.ALL_TYPES if words else _ffi.FILE
-    with _ffi.lent(data) as octets, _ffi.lent(name) as spelled:
-        yield _ffi.Input(kind=kind, limit=min(max_octets or 0, MOST_OCTETS), origin=spelled, octets=octets)
+class _Given(_ffi.Lending):
+    """An input that is lent to the library."""
+
+    __slots__ = ("input",)
+
+    def __init__(self, data: Buffer, origin: str, words: bool, max_octets: int | None) -> None:
+        if max_octets is not None and max_octets < 1:
+            raise ValueError("max_octets is less than 1")
+        try:
+            name = origin.encode("ascii")
+        except UnicodeEncodeError:
+            raise OriginError(f"{origin!r} is no absolute name") from None
+        super().__init__(data)
+        kind = _ffi.TRANSFER if origin == TRANSFER else _ffi.ALL_TYPES if words else _ffi.FILE
+        limit = min(max_octets or 0, MOST_OCTETS)
+        spelled, octets = _ffi.Lent(name, len(name)), _ffi.Lent(self.at, self.len)
+        self.input = byref(_ffi.Input(kind, 0, limit, spelled, octets))
 
 
 def _refused(answer: _ffi.Answer, text: bytes, field: str | None = None) -> Refused:
@@ -92,8 +95,8 @@ def normalise(data: Buffer, origin: str, *, words: bool = True, max_octets: int 
     example. 3600 IN NS ns1.example.
     ns1.example. 3600 IN A 192.0.2.1
     """
-    with given(data, origin, words, max_octets) as it:
-        return _call("zonenorm_normalise", byref(it))[0]
+    with _Given(data, origin, words, max_octets) as it:
+        return _call("zonenorm_normalise", it.input)[0]
 
 
 def compare(
@@ -109,8 +112,8 @@ def compare(
     >>> compare(file, "example.", file + b"www A 192.0.2.2\n", "example.")
     Comparison(same=False, line=3)
     """
-    with given(data, origin, words, max_octets) as first, given(other, other_origin, words, max_octets) as second:
-        answer = _call("zonenorm_compare", byref(first), byref(second))[1]
+    with _Given(data, origin, words, max_octets) as first, _Given(other, other_origin, words, max_octets) as second:
+        answer = _call("zonenorm_compare", first.input, second.input)[1]
     return Comparison(answer.status == _ffi.OK, answer.line if answer.status else None)
 
 
@@ -123,8 +126,8 @@ def verify(data: Buffer, origin: str, *, words: bool = True, max_octets: int | N
     >>> verify(b"@ 60 SOA ns h 1 2 3 4 5\n", "example.")
     (False, [])
     """
-    with given(data, origin, words, max_octets) as it:
-        verdicts, answer = _call("zonenorm_verify", byref(it))
+    with _Given(data, origin, words, max_octets) as it:
+        verdicts, answer = _call("zonenorm_verify", it.input)
     return answer.status == _ffi.OK, [VERDICTS[number] for number in verdicts]
 
 
@@ -140,8 +143,8 @@ def digest(
     """
     if algorithm not in _ALGORITHMS:
         raise ValueError(f"unknown algorithm: {algorithm!r}")
-    with given(data, origin, words, max_octets) as it:
-        return _call("zonenorm_digest", byref(it), _ALGORITHMS[algorithm])[0]
+    with _Given(data, origin, words, max_octets) as it:
+        return _call("zonenorm_digest", it.input, _ALGORITHMS[algorithm])[0]
 
 
 def generic(data: Buffer, origin: str, *, max_octets: int | None = None) -> bytes:
@@ -156,8 +159,8 @@ def generic(data: Buffer, origin: str, *, max_octets: int | None = None) -> byte
     zonenorm.Refused: line 1: CAA, value: nothing left
     """
     text, reason, answer = _ffi.Octets(), _ffi.Octets(), _ffi.Answer()
-    with given(data, origin, True, max_octets) as it:
-        _ffi.LIBRARY.zonenorm_generic(byref(it), byref(text), byref(reason), byref(answer))
+    with _Given(data, origin, True, max_octets) as it:
+        _ffi.LIBRARY.zonenorm_generic(it.input, byref(text), byref(reason), byref(answer))
     octets, why = _ffi.taken(text), _ffi.taken(reason)
     if answer.status == _ffi.REFUSED and not answer.fault:
         parts = why.decode("ascii", "backslashreplace").split(": ", 2)
@@ -174,8 +177,8 @@ def words(text: Buffer) -> bytes:
     >>> words(rb"example. 60 IN TYPE257 \# 17 0005697373756563612e6578616d706c65" + b"\n")
     b'example. 60 IN CAA 0 issue "ca.example"\n'
     """
-    with _ffi.lent(text) as octets:
-        return _call("zonenorm_words", octets.at, octets.len)[0]
+    with _ffi.Lending(text) as lent:
+        return _call("zonenorm_words", lent.at, lent.len)[0]
 
 
 def records(data: Buffer, origin: str, *, words: bool = True, max_octets: int | None = None) -> bytes:
@@ -186,5 +189,5 @@ def records(data: Buffer, origin: str, *, words: bool = True, max_octets: int | 
     >>> records(b"@ 60 SOA . . 1 2 3 4 5\n", ".")[:11].hex(" ")
     '00 00 06 00 01 00 00 00 3c 00 16'
     """
-    with given(data, origin, words, max_octets) as it:
-        return _call("zonenorm_records", byref(it))[0]
+    with _Given(data, origin, words, max_octets) as it:
+        return _call("zonenorm_records", it.input)[0]

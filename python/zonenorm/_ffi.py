@@ -3,10 +3,8 @@ from __future__ import annotations
 
 import ctypes
 import os
-from collections.abc import Iterator
-from contextlib import contextmanager
 from ctypes import POINTER, Structure, byref, c_char_p, c_int, c_size_t, c_ssize_t, c_uint32, c_uint64, c_void_p, py_object
-from typing import Any
+from typing import Any, Self
 
 ABI = 1
 FILE, TRANSFER, ALL_TYPES, FILES = range(4)
@@ -18,9 +16,15 @@ class Octets(Structure):
     _fields_ = [("at", c_void_p), ("len", c_size_t)]
 
 
+class Lent(Structure):
+    """Octets that are lent: `at` is their address, or bytes, which the structure keeps alive."""
+
+    _fields_ = [("at", c_char_p), ("len", c_size_t)]
+
+
 class Input(Structure):
     _fields_ = [
-        ("kind", c_uint32), ("reserved", c_uint32), ("limit", c_uint64), ("origin", Octets), ("octets", Octets),
+        ("kind", c_uint32), ("reserved", c_uint32), ("limit", c_uint64), ("origin", Lent), ("octets", Lent),
         ("directory", Octets), ("names", POINTER(Octets)), ("names_count", c_size_t), ("files", POINTER(Octets)),
         ("files_count", c_size_t),
     ]
@@ -91,20 +95,27 @@ def taken(text: Octets) -> bytes:
         _free(text.at)
 
 
-@contextmanager
-def lent(data: object) -> Iterator[Octets]:
-    """Lend the octets of an object with a buffer, without a copy unless they aren't contiguous."""
-    if isinstance(data, bytes):
-        yield Octets(ctypes.cast(c_char_p(data), c_void_p), len(data))
-        return
-    view = memoryview(data)  # type: ignore[arg-type]
-    if not view.c_contiguous:
-        with lent(view.tobytes()) as octets:
-            yield octets
-        return
-    buffer = _View()
-    _get_buffer(view, byref(buffer), 0)
-    try:
-        yield Octets(buffer.buf, buffer.len)
-    finally:
-        _release_buffer(byref(buffer))
+class Lending:
+    """The octets of an object with a buffer, lent without a copy unless they aren't contiguous."""
+
+    __slots__ = ("at", "len", "_view")
+
+    def __init__(self, data: object) -> None:
+        self.at: bytes | int | None
+        self._view: _View | None = None
+        if not isinstance(data, bytes):
+            view = memoryview(data)  # type: ignore[arg-type]
+            if view.c_contiguous:
+                self._view = _View()
+                _get_buffer(view, byref(self._view), 0)
+                self.at, self.len = self._view.buf, self._view.len
+                return
+            data = view.tobytes()
+        self.at, self.len = data, len(data)
+
+    def __enter__(self) -> Self:
+        return self
+
+    def __exit__(self, *raised: object) -> None:
+        if self._view is not None:
+            _release_buffer(byref(self._view))
