@@ -136,12 +136,10 @@ impl ZoneList {
     fn drop_repeats(&mut self) -> Result<(), AllocError>
         ensures { Tells self.old self.new }
     {
-        let mut growth = 4;
         if may_be_many(self.alloc, self.octets.as_slice(), self.entries.as_slice())? {
             *self = self.without_repeats()?;
-            growth = 2;
         }
-        self.mark = FIRST_MARK.max(self.octets.len().saturating_mul(growth));
+        self.mark = FIRST_MARK.max(self.octets.len().saturating_mul(2));
         Ok(())
     }
 

@@ -97,8 +97,17 @@ fn number(octets: &[u8], entries: &mut [Entry]) -> usize {
     number.saturating_add(1)
 }
 
-/// Whether it may be that half of the octets or more keep repeats. A record counts as new where no
-/// digest like its own was seen: so none of a record's repeats counts.
+/// What numbers of records are made of: equal records have equal numbers.
+#[derive(Clone, Copy)]
+enum Look {
+    /// The hint and the last octets: most records of a zone differ in these.
+    Quick,
+    /// All octets.
+    Whole,
+}
+
+/// Whether it may be that three quarters of the octets or more keep repeats. Most often a quick look
+/// at the first half of the records shows that it isn't so.
 ///
 /// # Errors
 ///
@@ -108,18 +117,48 @@ pub(crate) fn may_be_many(
     octets: &[u8],
     entries: &[Entry],
 ) -> Result<bool, AllocError> {
+    let (first, _) = entries.split_at(entries.len() / 2);
+    if is_quarter_different(alloc, octets, first, Look::Quick)? {
+        return Ok(false);
+    }
+    let is_seen = is_quarter_different(alloc, octets, entries, Look::Whole)?;
+    Ok(!is_seen)
+}
+
+/// Whether records of entries that differ are seen to take more than a quarter of the octets. A
+/// record counts as new where no number like its own was seen: so none of a record's repeats counts.
+///
+/// # Errors
+///
+/// `AllocError` where memory is refused.
+fn is_quarter_different(
+    alloc: Global,
+    octets: &[u8],
+    entries: &[Entry],
+    look: Look,
+) -> Result<bool, AllocError> {
     let mut seen = Seen::new(alloc, entries.len())?;
-    let (half, mut new_octets) = (octets.len() / 2, 0usize);
+    let (quarter, mut new_octets) = (octets.len() / 4, 0usize);
     for entry in entries {
         let record = span(octets, entry.at);
-        if seen.insert(digest(entry.hint, record)) {
+        if seen.insert(number_of(look, entry.hint, record)) {
             new_octets = new_octets.saturating_add(record.len());
-            if new_octets > half {
-                return Ok(false);
+            if new_octets > quarter {
+                return Ok(true);
             }
         }
     }
-    Ok(true)
+    Ok(false)
+}
+
+/// The number of a record, of which others may have the same one.
+#[inline(always)]
+fn number_of(look: Look, hint: u64, octets: &[u8]) -> u64 {
+    match (look, octets.last_chunk::<8>()) {
+        (Look::Quick, Some(last)) => mixed(hint, u64::from_le_bytes(*last)),
+        (Look::Quick, None) => mixed(hint, 0),
+        (Look::Whole, _) => digest(hint, octets),
+    }
 }
 
 /// A number of octets, of which others may have the same one.
