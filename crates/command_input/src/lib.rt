@@ -1,5 +1,5 @@
 //! What the command lines of programs that read zones have in common: the origin of an input, why
-//! words are no order, and what is told where a run stops.
+//! arguments are no order, and what is printed if a run stops.
 #![tactic(auto)]
 
 mod line_fault;

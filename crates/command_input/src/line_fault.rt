@@ -6,7 +6,7 @@ use command_line::NoCall;
 use std::alloc::AllocError;
 use zone_engine::{OUT_OF_MEMORY, status};
 
-/// What a user is told of a bad origin where a transfer has a word in its place.
+/// What is printed for a bad origin if `transfer` is possible in its place.
 const BAD_ORIGIN: &str = "F46 BadOrigin: an origin is an absolute name or the word transfer";
 
 /// Why a command line is no order.
@@ -14,7 +14,7 @@ const BAD_ORIGIN: &str = "F46 BadOrigin: an origin is an absolute name or the wo
 pub enum LineFault {
     /// An origin is none that the program takes.
     BadOrigin,
-    /// What `clap` tells a user in place of matches, help included.
+    /// What `clap` prints instead of matches, help included.
     Clap(String),
     /// Memory was refused.
     Memory,

@@ -1,4 +1,4 @@
-//! What a user is told where no order was given, or where a run stopped.
+//! What is printed if no order was given, or if a run stopped.
 ghost use Rattle.std.specs.Prelude.{◌++◌};
 ghost use Rattle.command_input.specs.LineFault.{bad_origin_line, line_status, line_text};
 ghost use Rattle.zone_engine.specs.Telling.{stop_line, stop_status, TellsLine};
@@ -8,8 +8,8 @@ use zone_engine::{OUT_OF_MEMORY, READ_FAILED, WRITE_FAILED, status, tell, tell_r
 use zone_print::OctetWriter;
 use zone_rdata::Stop;
 
-/// Tells why a run stopped, after these words, and answers its status: 4 where that could not be
-/// told. It takes no memory.
+/// Prints why a run stopped, after this text, and returns its status: 4 if that could not be
+/// printed. It allocates nothing.
 pub fn report<E: OctetWriter>(words: &str, stop: &Stop, errors: &mut E) -> u8
     ensures { TellsLine (words.now ++ stop_line stop.now) (stop_status stop.now)
         (E.state errors.old) (E.state errors.new) result }
@@ -22,7 +22,7 @@ pub fn report<E: OctetWriter>(words: &str, stop: &Stop, errors: &mut E) -> u8
     }
 }
 
-/// Tells why a command line is no order, and answers the status: 4 where that could not be told. An
+/// Prints why a command line is no order, and returns the status: 4 if that could not be printed. An
 /// origin is one that [`origin_of`](crate::origin_of) reads.
 pub fn refuse<E: OctetWriter>(fault: &LineFault, errors: &mut E) -> u8
     ensures { TellsLine (line_text bad_origin_line fault.now) (line_status fault.now)
@@ -31,8 +31,8 @@ pub fn refuse<E: OctetWriter>(fault: &LineFault, errors: &mut E) -> u8
     tell(errors, "", fault.text(), fault.status())
 }
 
-/// Prints why a command line is no order, with a line of the caller's for a bad origin, and answers
-/// the status: 4 where that could not be printed.
+/// Prints why a command line is no order, with a line of the caller's for a bad origin, and returns
+/// the status: 4 if that could not be printed.
 pub fn refuse_saying<E: OctetWriter>(bad_origin: &str, fault: &LineFault, errors: &mut E) -> u8
     ensures { TellsLine (line_text bad_origin.now fault.now) (line_status fault.now)
         (E.state errors.old) (E.state errors.new) result }

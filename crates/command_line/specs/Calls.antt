@@ -117,5 +117,5 @@ IsNoCall commands words Memory = Unit {0}
 
 -- why a program has no words: one of them is no text, or memory was refused
 abbrev pub IsNoWords : NoCall → Type 0
-IsNoWords (Told text) = string_bytes text ≡ codes "error: a word is no text"
+IsNoWords (Told text) = string_bytes text ≡ codes "error: an argument isn't valid UTF-8"
 IsNoWords Memory = Unit {0}

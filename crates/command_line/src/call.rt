@@ -87,7 +87,7 @@ impl<'w> Call<'w> {
         }
     }
 
-    /// The word of the command.
+    /// The name of the command.
     pub fn command(&self) -> &'w str
         ensures { result.now ≡ self.now.0 }
     {

@@ -1,4 +1,4 @@
-//! The call that words are.
+//! The command that the arguments call.
 ghost use Rattle.std.specs.Prelude.{◌≡◌, ◌≢◌, ◌↔◌, ◌⊎◌, drop, map, true, IfErr, IfOk, IsErr, string_bytes};
 ghost use Rattle.clap.specs.Words.{is_simple_and_free};
 ghost use Rattle.clap.specs.declared.error.kind.ErrorKind.TheVariants.{OutOfMemory};
@@ -13,11 +13,11 @@ use crate::reading::readable;
 use clap::error::ErrorKind;
 use std::alloc::{AllocError, Global};
 
-/// The command that the words after a program's name call.
+/// The command that the arguments after a program's name call.
 ///
 /// # Errors
 ///
-/// `Told` where `clap` gives no matches for one of the commands, help included; `Memory`.
+/// `Told` if `clap` gives no matches for one of the commands, help included; `Memory`.
 pub fn call_of<'w>(
     alloc: Global,
     program: &Program,
@@ -37,7 +37,7 @@ pub fn call_of<'w>(
     }
 }
 
-/// The words after the program's name, which is the first of these.
+/// The arguments after the program's name, which is the first of these.
 pub fn after_name(words: &[String]) -> &[String]
     ensures { map string_bytes result.now ≡ drop 1 (map string_bytes words.now) }
 {
@@ -47,7 +47,7 @@ pub fn after_name(words: &[String]) -> &[String]
     }
 }
 
-/// What is told in place of matches, by the kind and the text of what `clap` answers.
+/// What is printed instead of matches, by the kind and the text of what `clap` returns.
 fn refusal(kind: ErrorKind, text: Result<String, AllocError>) -> NoCall
     ensures told { kind ≢ OutOfMemory → IfOk text (λ text. Tells (string_bytes text) result) }
     ensures memory { (result ≡ NoCall.Memory) ↔ ((kind ≡ OutOfMemory) ⊎ IsErr text) }
@@ -59,12 +59,12 @@ fn refusal(kind: ErrorKind, text: Result<String, AllocError>) -> NoCall
     }
 }
 
-/// The program's help, for words that name no command.
+/// The program's help, for arguments that name no command.
 fn help(alloc: Global, program: &Program) -> Result<String, AllocError> {
     readable(alloc, program)?.render_help()
 }
 
-/// What is told of a text that `clap` gives: the text without the line feeds at its end.
+/// What is printed of a text that `clap` gives: the text without the line feeds at its end.
 fn told(text: Result<String, AllocError>) -> NoCall
     ensures told { IfOk text (λ text. Tells (string_bytes text) result) }
     ensures memory { (result ≡ NoCall.Memory) ↔ IsErr text }

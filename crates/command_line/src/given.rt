@@ -1,4 +1,4 @@
-//! The words that a program was started with.
+//! The arguments that a program was started with.
 ghost use Rattle.std.specs.Prelude.{◌≡◌, ◌≢◌, ◌↔◌, IfErr, IfOk, IsErrAnd, IsOk, IsOkAnd};
 ghost use Rattle.std.specs.IoError.{error_kind};
 ghost use Rattle.std.specs.Vec.Iter.{into_iter_items};
@@ -12,18 +12,18 @@ use std::env::Args;
 use std::rt::Env;
 use std::{env, io};
 
-/// The words that the program was started with, of which the first is its name.
+/// The arguments that the program was started with. The first is its name.
 ///
 /// # Errors
 ///
-/// `Told` where one of them is no text; `Memory`.
+/// `Told` if one of them isn't valid UTF-8; `Memory`.
 pub fn given_words<R: Env + AllocGlobal>(rt: &R) -> Result<Vec<String>, NoCall>
     ensures { IfErr result IsNoWords }
 {
     words_of(rt.alloc(), env::args(rt))
 }
 
-/// The words that `std` gives, or why there are none.
+/// The arguments that `std` gives, or why there are none.
 fn words_of(alloc: Global, given: io::Result<Args>) -> Result<Vec<String>, NoCall>
     ensures words { IfOk result (λ words.
         IsOkAnd given (λ given. words.items ≡ into_iter_items given)) }
@@ -35,13 +35,13 @@ fn words_of(alloc: Global, given: io::Result<Args>) -> Result<Vec<String>, NoCal
     match given {
         Ok(words) => Ok(words.collect::<Vec<String>>(alloc)?),
         Err(error) => {
-            let no_text = String::from_str(alloc, "error: a word is no text")?;
+            let no_text = String::from_str(alloc, "error: an argument isn't valid UTF-8")?;
             Err(no_words(error.kind(), no_text))
         }
     }
 }
 
-/// What is told of such an error: memory was refused, or one of the words is no text.
+/// What is printed for such an error: memory was refused, or an argument isn't valid UTF-8.
 fn no_words(kind: io::ErrorKind, no_text: String) -> NoCall
     ensures memory { (result ≡ no_calls.Memory) ↔ (kind ≡ OutOfMemory) }
     ensures told { kind ≢ OutOfMemory → result ≡ no_calls.Told no_text }

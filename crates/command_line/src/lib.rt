@@ -1,5 +1,5 @@
-//! What the words of a command line call, by `clap`: a program's commands as a table, and a call of
-//! one of them with what was found for its arguments, or what a user is told in its place.
+//! What the arguments of a program call, by `clap`: a program's commands as a table, and a call of
+//! one of them with what was found for its arguments, or what is printed instead.
 #![tactic(auto)]
 
 mod call;
@@ -15,7 +15,7 @@ pub use given::given_words;
 pub use no_call::NoCall;
 pub use program::{Argument, ArgumentKind, Program, ProgramCommand};
 
-/// The version of the programs, and what one of them tells behind it.
+/// The version of the programs, and what one of them prints behind it.
 #[macro_export]
 macro_rules! version {
     ($($behind:literal)?) => {

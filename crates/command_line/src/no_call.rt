@@ -1,11 +1,11 @@
-//! Why words call no command.
+//! Why arguments call no command.
 
 use std::alloc::AllocError;
 
-/// Why words call no command.
+/// Why arguments call no command.
 #[derive(Debug, Drop)]
 pub enum NoCall {
-    /// What a user is told in place of a call, help included, without a line feed at its end.
+    /// What is printed instead of a call, help included, without a line feed at its end.
     Told(String),
     /// Memory was refused.
     Memory,

@@ -11,7 +11,7 @@ pub struct Program {
     pub about: &'static str,
     /// How it is called.
     pub usage: &'static str,
-    /// What stands below its help and that of each command.
+    /// What is printed below its help and that of each command.
     pub notes: &'static str,
     /// Its commands.
     pub commands: &'static [ProgramCommand],
@@ -20,21 +20,21 @@ pub struct Program {
 /// A command of a program.
 #[derive(Clone, Copy, Debug)]
 pub struct ProgramCommand {
-    /// Its word.
+    /// Its name.
     pub word: &'static str,
     /// What it does.
     pub about: &'static str,
     /// How it is called.
     pub usage: &'static str,
-    /// Its arguments, those that are words in order.
+    /// Its arguments. Positional ones are in order.
     pub arguments: &'static [Argument],
 }
 
 /// An argument of a command.
 #[derive(Clone, Copy, Debug)]
 pub struct Argument {
-    /// What stands for it in a usage, by which its text is found; of a flag or an option what
-    /// follows its two hyphens.
+    /// Its name in a usage, by which its text is found; of a flag or an option what follows its two
+    /// hyphens.
     pub id: &'static str,
     /// What it is.
     pub help: &'static str,
@@ -45,10 +45,10 @@ pub struct Argument {
 /// How an argument is given.
 #[derive(Clone, Copy, Debug)]
 pub enum ArgumentKind {
-    /// As one required word.
+    /// As one required positional argument.
     Word,
     /// As a flag, two hyphens and its name, or not at all. Its text is then `true` or `false`.
     Flag,
-    /// As an option, two hyphens, its name and a word, or not at all.
+    /// As an option, two hyphens, its name and a value, or not at all.
     Value,
 }

@@ -9,7 +9,7 @@ use crate::program::{Argument, ArgumentKind, Program, ProgramCommand};
 use clap::{Arg, ArgAction, Command};
 use std::alloc::{AllocError, Global};
 
-/// The program with its commands. It is handed the words after its name.
+/// The program with its commands. It is given the arguments after its name.
 #[tactic(auto, using(std::proofs::lemmas::List::take_all))]
 pub(crate) fn readable<'a>(alloc: Global, program: &Program) -> Result<Command<'a>, AllocError>
     ensures app { IfOk result (λ command. app_of command ≡ app_described program.now) }
@@ -43,7 +43,7 @@ fn readable_command<'a>(
     Ok(with_texts(command, row.about, row.usage, notes))
 }
 
-/// The command with what its help shows: what it does, how it is called, and what stands below.
+/// The command with what its help shows: what it does, how it is called, and the notes below.
 fn with_texts<'a>(
     command: Command<'a>,
     about: &'a str,

@@ -1,4 +1,4 @@
-//! What an order is answered.
+//! What is written for an order.
 ghost use Rattle.std.specs.Prelude.{◌≡◌, ◌⊎◌, IfErr, IfOk, Option};
 ghost use Rattle.digest_command.specs.Machine.Answering.{StopsAnswer};
 ghost use Rattle.digest_command.specs.Run.{IsAnswer, IsAnswered, input_for, origin_of};
@@ -19,7 +19,7 @@ use zone_name::Name;
 use zone_rdata::Stop;
 use zone_set::Zone;
 
-/// The exit status where the zone isn't verified.
+/// The exit status if the zone isn't verified.
 const NOT_VERIFIED: u8 = 1;
 
 /// What is written for an order, and the exit status.
@@ -29,7 +29,7 @@ pub(crate) struct Answer {
     pub(crate) status: u8,
 }
 
-/// What an order is answered about the zone that the reader's octets denote.
+/// What is written for an order about the zone that the reader's octets denote.
 ///
 /// # Errors
 ///
@@ -59,7 +59,7 @@ fn origin_of(order: &Order) -> &Option<Name>
     }
 }
 
-/// What an order is answered about a zone.
+/// What is written for an order about a zone.
 ///
 /// # Errors
 ///
@@ -81,7 +81,7 @@ fn answer_about(alloc: Global, zone: &Zone, order: &Order) -> Result<Answer, Sto
     }
 }
 
-/// What is told of the ZONEMD records of a zone.
+/// What is printed of the ZONEMD records of a zone.
 fn verdict_on(alloc: Global, zone: &Zone) -> Result<Answer, AllocError>
     ensures { IfOk result (λ answer. (origin : Option Labels)
         → IsAnswer zone.now (Verify origin) answer.text.items answer.status) }

@@ -1,4 +1,4 @@
-//! The orders of the command line of `zonedigest`, and what a run of one reads, writes and answers.
+//! The orders of the command line of `zonedigest`, and what a run of one reads, writes and returns.
 #![tactic(auto)]
 
 mod answer;

@@ -1,4 +1,4 @@
-//! The lines that tell of ZONEMD records, and a ZONEMD record in words.
+//! The lines about ZONEMD records, and a ZONEMD record in presentation format.
 ghost use Rattle.std.specs.List.{flat_map};
 ghost use Rattle.std.specs.Option.{option_copied};
 ghost use Rattle.std.specs.Prelude.{◌≡◌, ◌++◌, ◌∷◌, [], codes, drop, find, IfOk, OnOk, string_bytes};
@@ -13,12 +13,12 @@ use zone_digest::{Finding, Verdict};
 use zone_print::push_line;
 use zone_rdata::{Rr, RrRef};
 
-/// What is told of a zone of this serial with these findings: of the first record that is verified,
-/// or why none is.
+/// What is printed for a zone of this serial with these findings: the line of the first record that is
+/// verified, or why none is.
 ///
 /// # Errors
 ///
-/// Want of memory.
+/// Memory was refused.
 pub(crate) fn findings_text(
     alloc: Global,
     serial: u32,
@@ -156,7 +156,7 @@ fn octet_at(octets: &[u8], place: usize) -> u8
 ///
 /// # Errors
 ///
-/// Want of memory.
+/// Memory was refused.
 pub(crate) fn record_line(alloc: Global, notation: Notation, rr: &Rr) -> Result<Vec<u8>, AllocError>
     ensures { IfOk result (λ line. line.items ≡ record_line notation rr.now) }
 {
@@ -168,7 +168,7 @@ pub(crate) fn record_line(alloc: Global, notation: Notation, rr: &Rr) -> Result<
     Ok(line)
 }
 
-/// Appends the line of a ZONEMD record in words.
+/// Appends the line of a ZONEMD record in presentation format.
 fn push_in_words(alloc: Global, line: &mut Vec<u8>, rr: &RrRef<'_>) -> Result<(), AllocError>
     ensures { OnOk result (line.new.items ≡ line.old.items ++ words_line (record_of rr.now)) }
 {
@@ -179,7 +179,7 @@ fn push_in_words(alloc: Global, line: &mut Vec<u8>, rr: &RrRef<'_>) -> Result<()
     line.extend_from_slice(data_in_words(alloc, rr.rdata.octets())?.as_bytes())
 }
 
-/// The type ZONEMD and its data in words, as they stand behind the class.
+/// The type ZONEMD and its data in presentation format, as they follow the class.
 fn data_in_words(alloc: Global, octets: &[u8]) -> Result<String, AllocError>
     ensures { IfOk result (λ text. string_bytes text ≡ codes " ZONEMD " ++ fields_text octets.now
         ++ 32 ∷ encode_lower (drop 6 octets.now) ++ 10 ∷ []) }

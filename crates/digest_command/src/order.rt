@@ -12,19 +12,19 @@ use zone_name::Name;
 /// What a command line asks for. An origin is that of a master file, and a transfer has none.
 #[derive(Debug, Drop)]
 pub enum Order {
-    /// Tell whether the zone on standard input is verified, and if not why.
+    /// Verify the zone on standard input, and print why it isn't verified.
     Verify(Option<Name>),
-    /// Write the ZONEMD record that the zone on standard input wants, by this hash algorithm and in
+    /// Write the ZONEMD record of the zone on standard input, by this hash algorithm and in
     /// this notation.
     Digest(Option<Name>, Algorithm, Notation),
 }
 
-/// The order that the words after the program's name give.
+/// The order that the arguments after the program's name give.
 ///
 /// # Errors
 ///
-/// `BadOrigin` where the text of the origin is neither an absolute name nor `transfer`; `Clap`
-/// where `clap` gives no matches for one of the commands, help included; `Memory`.
+/// `BadOrigin` if the text of the origin is neither an absolute name nor `transfer`; `Clap` if
+/// `clap` gives no matches for one of the commands, help included; `Memory`.
 pub fn order_of(alloc: Global, words: &[String]) -> Result<Order, LineFault>
     ensures ordered { IfOk result (Orders (map string_bytes words.now)) }
     ensures refused { IfErr result (IsLineFault (map string_bytes words.now)) }
@@ -41,12 +41,12 @@ pub fn order_of(alloc: Global, words: &[String]) -> Result<Order, LineFault>
     }
 }
 
-/// The order of the program's words, of which the first is its name.
+/// The order of the program's arguments, the first of which is its name.
 ///
 /// # Errors
 ///
-/// `BadOrigin` where the text of the origin is neither an absolute name nor `transfer`; `Clap`
-/// where `clap` gives no matches for one of the commands, help included; `Memory`.
+/// `BadOrigin` if the text of the origin is neither an absolute name nor `transfer`; `Clap` if
+/// `clap` gives no matches for one of the commands, help included; `Memory`.
 pub fn order_after_name(alloc: Global, words: &[String]) -> Result<Order, LineFault>
     ensures ordered { IfOk result (Orders (drop 1 (map string_bytes words.now))) }
     ensures refused { IfErr result (IsLineFault (drop 1 (map string_bytes words.now))) }

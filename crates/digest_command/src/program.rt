@@ -9,14 +9,15 @@ use zone_engine::OctetReader;
 use zone_engine::laws::{no_zone_of_a_refused_input, one_zone};
 use zone_print::{OctetWriter, write_octets};
 
-/// The whole program over a reader, a writer and an error writer. It answers the exit status: of an
-/// order to verify 0 where the zone is verified, and 1 where it isn't, with lines on the writer that
-/// tell of its ZONEMD records; of one to digest 0, with the record that the zone wants on the
-/// writer; 3 where the input is refused; 4 where reading, writing or memory failed. Of 3 and 4 a
-/// line on the error writer tells why. Where that can't be told the status is 4, and a proper prefix
-/// of the line was written. With 3 the writer got nothing, with 4 nothing or a proper prefix of the
-/// lines, and with 0 and 1 the error writer got nothing. No writer is flushed, and a reader or a
-/// writer that failed isn't called again.
+/// The whole program over a reader, a writer and an error writer.
+///
+/// It returns the exit status: of an order to verify 0 if the zone is verified, and 1 if it isn't,
+/// with lines on the writer about its ZONEMD records; of one to digest 0, with the zone's record on
+/// the writer; 3 if the input is refused; 4 if reading, writing or memory failed. With 3 and 4 a line
+/// on the error writer says why. If that can't be written the status is 4, and a proper prefix of the
+/// line was written. With 3 the writer got nothing, with 4 nothing or a proper prefix of the lines,
+/// and with 0 and 1 the error writer got nothing. No writer is flushed, and a reader or a writer that
+/// failed isn't called again.
 pub fn run<R: OctetReader, W: OctetWriter, E: OctetWriter>(
     alloc: Global,
     order: &Order,

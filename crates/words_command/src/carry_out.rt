@@ -25,7 +25,7 @@ const STOPPED: LastLine = LastLine {
     after_line: b"$STOPPED\n",
 };
 
-/// Carries an order out, and answers what there is to tell.
+/// Carries an order out, and returns what there is to report.
 ///
 /// # Errors
 ///
@@ -55,7 +55,7 @@ pub(crate) fn carry_out<R: OctetReader, W: OctetWriter>(
 }
 
 /// Writes the rewriting of the master file that the reader gives, entry by entry as it comes, and
-/// answers what is told of it. Only the entry that isn't ended is kept.
+/// returns what is reported of it. Only the entry that isn't ended is kept.
 ///
 /// # Errors
 ///
@@ -80,8 +80,8 @@ fn rewrite<R: OctetReader, W: OctetWriter>(
     Ok(rewriter.refusals())
 }
 
-/// Shows the text that the reader gives in words, line by line as it comes. Only the line that
-/// isn't ended is kept.
+/// Shows the text that the reader gives in presentation format, line by line as it comes. Only the
+/// line that isn't ended is kept.
 ///
 /// # Errors
 ///

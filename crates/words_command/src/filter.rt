@@ -127,7 +127,7 @@ impl Filter for Rewriter {
     ghost all = { λ origin rewriter octets text is. (is.told, is.is) };
 }
 
-/// It shows a text in words, line by line.
+/// It shows a text in presentation format, line by line.
 impl Filter for WordsPrinter {
     ghost use Rattle.std.specs.Prelude.{⊤};
     ghost use Rattle.words_command.specs.Machine.Filters.{HasShown, ShowsSoFar};

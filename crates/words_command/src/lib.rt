@@ -1,4 +1,4 @@
-//! The orders of the command line of `zonewords`, and what a run of one reads, writes and answers.
+//! The orders of the command line of `zonewords`, and what a run of one reads, writes and returns.
 #![tactic(auto)]
 
 mod carry_out;

@@ -14,16 +14,16 @@ pub enum Order {
     /// Write the master file on standard input again, under this origin, with the data of further
     /// types in the generic form (RFC 3597 5).
     Generic(CasedName),
-    /// Write the text on standard input again, line by line, the data of further types in words in
-    /// place of the generic form.
+    /// Write the text on standard input again, line by line, with the data of further types in
+    /// presentation format instead of the generic form.
     Words,
 }
 
-/// The order that the words after the program's name give.
+/// The order that the arguments after the program's name give.
 ///
 /// # Errors
 ///
-/// `BadOrigin` where the text of the origin spells no absolute name (RFC 1035 5.1); `Clap` where
+/// `BadOrigin` if the text of the origin spells no absolute name (RFC 1035 5.1); `Clap` if
 /// `clap` gives no matches for a command, help included; `Memory`.
 pub fn order_of(alloc: Global, words: &[String]) -> Result<Order, LineFault>
     ensures ordered { IfOk result (Orders (map string_bytes words.now)) }
@@ -37,11 +37,11 @@ pub fn order_of(alloc: Global, words: &[String]) -> Result<Order, LineFault>
     }
 }
 
-/// The order of the program's words, of which the first is its name.
+/// The order of the program's arguments, the first of which is its name.
 ///
 /// # Errors
 ///
-/// `BadOrigin` where the text of the origin spells no absolute name (RFC 1035 5.1); `Clap` where
+/// `BadOrigin` if the text of the origin spells no absolute name (RFC 1035 5.1); `Clap` if
 /// `clap` gives no matches for a command, help included; `Memory`.
 pub fn order_after_name(alloc: Global, words: &[String]) -> Result<Order, LineFault>
     ensures ordered { IfOk result (Orders (drop 1 (map string_bytes words.now))) }
@@ -50,7 +50,7 @@ pub fn order_after_name(alloc: Global, words: &[String]) -> Result<Order, LineFa
     order_of(alloc, after_name(words))
 }
 
-/// The origin that a text gives, with its letters as they stand.
+/// The origin that a text gives, with its letters as they are.
 ///
 /// # Errors
 ///

@@ -14,20 +14,22 @@ use zone_engine::{OUT_OF_MEMORY, OctetReader, tell};
 use zone_print::OctetWriter;
 use zone_words::{Refusal, Refusals};
 
-/// The whole program over a reader, a writer and an error writer. It answers the exit status: 0
-/// where the rewriting of the whole file, or all of the text in words, was written; 3 where the
-/// rewriting was, and some entry of a further type states no data, of which a line on the error
-/// writer tells; 4 where reading, writing or memory failed, with a line that tells which. Where a
-/// line can't be told the status is 4: a proper prefix of it was written, or, where memory was
-/// refused for it, the line `out of memory`. With 0 the error writer got nothing.
+/// The whole program over a reader, a writer and an error writer.
 ///
-/// Where reading failed, or memory was refused before all was written, the writer got what is
-/// written for the whole entries before and a last line `$STOPPED`, or a proper prefix of that; of
-/// a text in words what is shown for the whole lines before, or a proper prefix of that. A line feed
-/// goes before `$STOPPED` where the text broke inside a line. The line is still that of the first
-/// failure. Where writing failed it got a proper prefix of what was being written, and nothing more.
-/// A reader that gives more than 2^63 octets is taken for one that failed. No writer is flushed, and
-/// a reader or a writer that failed isn't called again.
+/// It returns the exit status: 0 if the rewriting of the whole file, or all of the text in
+/// presentation format, was written; 3 if the rewriting was, and some entry of a further type states
+/// no data, which a line on the error writer reports; 4 if reading, writing or memory failed, with a
+/// line that says which. If a line can't be written the status is 4: a proper prefix of it was
+/// written, or, if memory was refused for it, the line `out of memory`. With 0 the error writer got
+/// nothing.
+///
+/// If reading failed, or memory was refused before all was written, the writer got what is written
+/// for the whole entries before and a last line `$STOPPED`, or a proper prefix of that. Of a text in
+/// presentation format it got what is shown for the whole lines before, or a proper prefix of that.
+/// A line feed goes before `$STOPPED` if the text broke inside a line. The line is still that of the
+/// first failure. If writing failed it got a proper prefix of what was being written, and nothing
+/// more. A reader that gives more than 2^63 octets counts as one that failed. No writer is flushed,
+/// and a reader or a writer that failed isn't called again.
 pub fn run<R: OctetReader, W: OctetWriter, E: OctetWriter>(
     alloc: Global,
     order: &Order,
@@ -45,7 +47,7 @@ pub fn run<R: OctetReader, W: OctetWriter, E: OctetWriter>(
     }
 }
 
-/// Tells of the entries that state no data, and answers the status.
+/// Prints the line on the entries that state no data, and returns the status.
 fn tell_refusals<E: OctetWriter>(alloc: Global, refusals: &Refusals, errors: &mut E) -> u8
     ensures { TellsRefused refusals.now (E.state errors.old) (E.state errors.new) result }
 {
@@ -75,8 +77,8 @@ fn push_others(line: &mut String, others: u64) -> Result<(), AllocError>
     }
 }
 
-/// Tells the line on entries that state no data, or that memory was refused for it, and answers the
-/// status.
+/// Prints the line on entries that state no data, or that memory was refused for it, and returns
+/// the status.
 fn tell_line<E: OctetWriter>(line: Result<String, AllocError>, errors: &mut E) -> u8
     ensures told { IfOk line (λ line. TellsLine (string_bytes line) 3
         (E.state errors.old) (E.state errors.new) result) }
@@ -89,7 +91,7 @@ fn tell_line<E: OctetWriter>(line: Result<String, AllocError>, errors: &mut E) -
     }
 }
 
-/// Tells why a command line is no order, and answers the status: 4 where that could not be told.
+/// Prints why a command line is no order, and returns the status: 4 if that could not be printed.
 pub fn refuse<E: OctetWriter>(fault: &LineFault, errors: &mut E) -> u8
     ensures { TellsLine (line_text bad_origin_line fault.now) (line_status fault.now)
         (E.state errors.old) (E.state errors.new) result }

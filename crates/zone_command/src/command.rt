@@ -6,7 +6,7 @@ use command_line::{Argument, ArgumentKind, Program, ProgramCommand, version};
 pub(crate) static PROGRAM: Program = Program {
     name: "zonenorm",
     version: VERSION,
-    about: "Normalises DNS zone data: equal zones give equal bytes",
+    about: "Writes a DNS zone in canonical form, or compares two zones",
     usage: USAGE,
     notes: NOTES,
     commands: &[
@@ -22,7 +22,7 @@ pub(crate) static PROGRAM: Program = Program {
         },
         ProgramCommand {
             word: "explain",
-            about: "Tells how many records the zone on standard input has, or why it is refused",
+            about: "Prints how many records the zone on standard input has, or why it is refused",
             usage: "zonenorm explain <ORIGIN> < FILE",
             arguments: &[Argument {
                 id: "ORIGIN",
@@ -32,7 +32,7 @@ pub(crate) static PROGRAM: Program = Program {
         },
         ProgramCommand {
             word: "compare",
-            about: "Tells whether two files hold one zone, or the first line of canonical text that differs",
+            about: "Prints whether two files are the same zone, or the first line of canonical text that differs",
             usage: "zonenorm compare <ORIGIN1> <PATH1> <ORIGIN2> <PATH2>",
             arguments: &[
                 Argument {
@@ -69,14 +69,14 @@ zonenorm normalise <ORIGIN> < FILE
        zonenorm explain <ORIGIN> < FILE
        zonenorm compare <ORIGIN1> <PATH1> <ORIGIN2> <PATH2>";
 
-/// What stands below the help of the program and of each command.
+/// What is printed below the help of the program and of each command.
 const NOTES: &str = "\
-ORIGIN is the origin of a master file, an absolute name as example.com. with the dot at its end, or the word transfer
-for a captured TCP stream of a zone transfer (AXFR). A leading hyphen of a name is written \\-
+ORIGIN is the origin of a master file, an absolute name such as example.com. with its final dot, or the word transfer
+for a captured zone transfer (AXFR over TCP). A leading hyphen of a name is written \\-
 
 Exit status: 0 the zone is accepted, or both are the same; 1 the zones differ; 2 the command line is wrong; 3 the input
-is refused, and a line tells why and where; 4 reading, writing or memory failed.";
+is refused, and a line says why and where; 4 reading, writing or memory failed.";
 
 const ORIGIN: &str = "The file's origin, an absolute name, or the word transfer";
 
-const PATH: &str = "The file that holds the input";
+const PATH: &str = "The master file or captured zone transfer";

@@ -1,4 +1,4 @@
-//! The orders of a command line, and what a run of one reads, writes and answers.
+//! The orders of a command line, and what a run of one reads, writes and returns.
 #![tactic(auto)]
 
 mod command;

@@ -12,7 +12,7 @@ use zone_name::Name;
 pub struct Source {
     /// The origin of a master file, none of a transfer.
     pub origin: Option<Name>,
-    /// Where the input lies.
+    /// The file that has the input.
     pub path: String,
 }
 
@@ -21,17 +21,17 @@ pub struct Source {
 pub enum Order {
     /// Write the canonical text of the input on standard input.
     Normalise(Option<Name>),
-    /// Tell how many records the zone on standard input has, or why it is refused.
+    /// Print how many records the zone on standard input has, or why it is refused.
     Explain(Option<Name>),
-    /// Tell whether two inputs denote one zone, or at which line their canonical texts differ.
+    /// Print whether two inputs denote one zone, or at which line their canonical texts differ.
     Compare(Source, Source),
 }
 
-/// The order that the words after the program's name give. The origins are judged from the left.
+/// The order that the arguments after the program's name give. The origins are judged from the left.
 ///
 /// # Errors
 ///
-/// `BadOrigin` where the text of an origin is neither an absolute name nor `transfer`; `Clap` where
+/// `BadOrigin` if the text of an origin is neither an absolute name nor `transfer`; `Clap` if
 /// `clap` gives no matches for one of the commands, help included; `Memory`.
 pub fn order_of(alloc: Global, words: &[String]) -> Result<Order, LineFault>
     ensures ordered { IfOk result (Orders (map string_bytes words.now)) }
@@ -59,11 +59,11 @@ pub fn order_of(alloc: Global, words: &[String]) -> Result<Order, LineFault>
     }
 }
 
-/// The order of the program's words, of which the first is its name.
+/// The order of the program's arguments, the first of which is its name.
 ///
 /// # Errors
 ///
-/// `BadOrigin` where the text of an origin is neither an absolute name nor `transfer`; `Clap` where
+/// `BadOrigin` if the text of an origin is neither an absolute name nor `transfer`; `Clap` if
 /// `clap` gives no matches for one of the commands, help included; `Memory`.
 pub fn order_after_name(alloc: Global, words: &[String]) -> Result<Order, LineFault>
     ensures ordered { IfOk result (Orders (drop 1 (map string_bytes words.now))) }

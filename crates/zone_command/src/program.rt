@@ -13,14 +13,16 @@ use zone_print::OctetWriter;
 const DIFFERENT: u8 = 1;
 
 /// The whole program over two readers, a writer and an error writer. `normalise` and `explain` read
-/// the first reader alone, and a comparison reads the second once the first was accepted. It
-/// answers the exit status: 0 where the canonical text was written, the zone was accepted or both
-/// are the same; 1 where two zones differ; 3 where an input is refused; 4 where reading, writing or
-/// memory failed. Of 3 and 4 a line on the error writer tells why, of a comparison after the name
-/// of the input; `explain` tells of 3 on the writer. Where that can't be told the status is 4, and a
-/// proper prefix of the line was written. With 4 the writer got nothing, or a proper prefix of the
-/// text or line that the order writes. With 0 and 1 the error writer got nothing. No writer is
-/// flushed, and a reader or a writer that failed isn't called again.
+/// the first reader alone. A comparison reads the second one if the first was accepted.
+///
+/// It returns the exit status: 0 if the canonical text was written, the zone was accepted or both are
+/// the same; 1 if two zones differ; 3 if an input is refused; 4 if reading, writing or memory failed.
+/// With 3 and 4 a line on the error writer says why, for a comparison after the name of the input;
+/// `explain` writes it to the writer with 3. If the line can't be written the status is 4, and a
+/// proper prefix of it was written. With 4 the writer got nothing, or a proper prefix of the text or
+/// line that the order writes. With 0 and 1 the error writer got nothing.
+///
+/// No writer is flushed, and a reader or a writer that failed isn't called again.
 pub fn run<R1: OctetReader, R2: OctetReader, W: OctetWriter, E: OctetWriter>(
     alloc: Global,
     order: &Order,
@@ -63,7 +65,7 @@ pub fn run<R1: OctetReader, R2: OctetReader, W: OctetWriter, E: OctetWriter>(
     }
 }
 
-/// Writes the line of a verdict, and answers its status. It takes no memory.
+/// Writes the line of a verdict, and returns its status. It allocates nothing.
 fn tell_verdict<W: OctetWriter, E: OctetWriter>(
     verdict: Verdict,
     output: &mut W,
