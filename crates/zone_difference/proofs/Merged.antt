@@ -1,5 +1,5 @@
 -- The changes by which ascending records go and come.
-use Rattle.zone_set.proofs.Common.{◌≡◌, ◌≢◌, Equal, Greater, Less, Ordering, List, [], ◌∷◌, ◌+◌, ◌≤◌, ℕ, suc, zero, length, refl, sym, ap, ◌∙◌, subst, inl, inr, arith, AllByRecursion, Has, Record}
+use Rattle.zone_set.proofs.Common.{◌≡◌, Equal, Greater, Less, Ordering, List, [], ◌∷◌, ◌+◌, ◌≤◌, ℕ, suc, zero, length, refl, sym, ap, ◌∙◌, subst, inl, inr, arith, AllByRecursion, Has, Record}
 use Rattle.zone_set.proofs.Holding.Together.{each_Has}
 use Rattle.zone_set.specs.Order.{Ascends, canonical_cmp}
 use Rattle.zone_difference.proofs.Rrsets.{addition_before, removal_before, removal_goes, rrset_cmp, turned_goes}
@@ -26,8 +26,8 @@ removal_then r gone come more up up_come first merged = record {
   added = merged.added;
   order = (
     all_before (removal r) more
-    (λ s has. each_Has (λ t. canonical_cmp r t ≡ Less) gone s up.0 (subst (λ l. Has l s) merged.removed has))
-    (λ s has. removal_before r come up_come first s (subst (λ l. Has l s) merged.added has)),
+        (λ s has. each_Has (λ t. canonical_cmp r t ≡ Less) gone s up.0 (subst (λ l. Has l s) merged.removed has))
+        (λ s has. removal_before r come up_come first s (subst (λ l. Has l s) merged.added has)),
     merged.order,
   );
 }
@@ -38,8 +38,8 @@ addition_then s gone come more up up_come first merged = record {
   added = ap (λ l. s ∷ l) merged.added;
   order = (
     all_before (addition s) more
-    (λ r has. addition_before s gone up first r (subst (λ l. Has l r) merged.removed has))
-    (λ r has. each_Has (λ t. canonical_cmp s t ≡ Less) come r up_come.0 (subst (λ l. Has l r) merged.added has)),
+        (λ r has. addition_before s gone up first r (subst (λ l. Has l r) merged.removed has))
+        (λ r has. each_Has (λ t. canonical_cmp s t ≡ Less) come r up_come.0 (subst (λ l. Has l r) merged.added has)),
     merged.order,
   );
 }

@@ -1,5 +1,5 @@
 -- The steps of a walk over the records of two zones.
-use Rattle.zone_set.proofs.Common.{◌≡◌, ◌≢◌, Equal, Greater, Less, List, [], ◌∷◌, ℕ, IsTrue, ◌↔◌, refl, sym, ap, ◌∙◌, subst, inl, inr, ⊎_elim, AllByRecursion, ordering_reverse, tied_itself, Has, IsZone, Record}
+use Rattle.zone_set.proofs.Common.{◌≡◌, ◌≢◌, Equal, Greater, Less, List, ◌∷◌, ◌↔◌, sym, ap, ◌∙◌, subst, inl, inr, ⊎_elim, AllByRecursion, ordering_reverse, tied_itself, Has, IsZone, Record}
 use Rattle.zone_set.proofs.Holding.Together.{each_Has}
 use Rattle.zone_set.proofs.Ordering.SetOrder.{canonical_total}
 use Rattle.zone_set.specs.Order.{Ascends, canonical_cmp}

@@ -1,5 +1,5 @@
 -- The records of one list that the other lacks, found in their order.
-use Rattle.zone_set.proofs.Common.{◌≡◌, Less, List, [], ◌∷◌, ◌↔◌, refl, sym, subst, inl, inr, ⊎_elim, ◌⊎◌, AllByRecursion, Has, Record}
+use Rattle.zone_set.proofs.Common.{◌≡◌, Less, List, [], ◌∷◌, ◌↔◌, refl, sym, subst, inl, inr, ⊎_elim, ◌⊎◌, Has, Record}
 use Rattle.zone_set.proofs.Holding.Together.{each_Has, each_from_Has}
 use Rattle.zone_set.specs.Order.{Ascends, canonical_cmp}
 use Rattle.zone_difference.proofs.OneDifference.{has_or_not}

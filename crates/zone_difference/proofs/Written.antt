@@ -1,12 +1,12 @@
 -- What is written of the changes of two zones.
-use Rattle.zone_set.proofs.Common.{◌≡◌, List, [], ◌∷◌, ◌++◌, refl, sym, ap, ◌∙◌, append_assoc, subst, Record, ℕ}
+use Rattle.zone_set.proofs.Common.{◌≡◌, List, [], ◌∷◌, ◌++◌, sym, ap, ◌∙◌, append_assoc, subst, Record, ℕ}
 use Rattle.std.proofs.KnownBytes.{Appends-nil}
 use Rattle.std.specs.Io.KnownBytes.{Appends}
 use Rattle.std.specs.Prelude.{◌≢◌, Option}
 use Rattle.zone_print.proofs.Front.{Left, left_less, left_none, part_left, part_more}
 use Rattle.zone_print.specs.Writing.{AppendsPart}
 use Rattle.zone_set.specs.Order.{Ascends}
-use Rattle.zone_difference.proofs.Merged.{AreMerged, come_up, first_and, gone_up, have_merged, merged_changes, none_merged}
+use Rattle.zone_difference.proofs.Merged.{AreMerged, come_up, first_and, gone_up, have_merged, merged_changes}
 use Rattle.zone_difference.specs.Difference.{AreChanges, Change, IsDifference, addition, removal}
 use Rattle.zone_difference.specs.Text.{WritesChanges, WritesPart, change_line, changes_text}
 use Rattle.zone_difference.specs.Walk.{AreLeft, TakesFirst}

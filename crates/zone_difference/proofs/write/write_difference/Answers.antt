@@ -1,6 +1,6 @@
 -- The writer took all but the lines that are gathered and those to come, or a part of them.
 use Rattle.zone_print.proofs.Common.{err_from_is_err_and, MatchResult-weaker}
-use Rattle.zone_difference.proofs.Written.{begins, ended, ended_part, gathered, refused, stopped, taken}
+use Rattle.zone_difference.proofs.Written.{ended, ended_part, gathered, refused, stopped, taken}
 use Rattle.zone_difference.specs.Walk.{change_of}
 use Rattle.zone_difference.proofs.write.write_difference.Goals as goal
 

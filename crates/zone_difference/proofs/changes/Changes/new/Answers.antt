@@ -27,5 +27,5 @@ returns c =
         additions = c.next-addition.ensures.taken c.args.zone.now.class come.0 (record { sides = sides; are = come.1 });
       },
       difference_of c.args.zone.now.records c.args.other.now.records _ _ _ _ gone.0 come.0 c.new-removed.ensures.records c.new-removed.ensures.others c.new-added.ensures.records c.new-added.ensures.others
-      gone.1 come.1 c.new-removed.ensures.sides.up c.new-added.ensures.sides.up,
+          gone.1 come.1 c.new-removed.ensures.sides.up c.new-added.ensures.sides.up,
     )

@@ -1,5 +1,5 @@
 -- Where the removal isn't first, the addition is.
-use Rattle.std.proofs.Common.{◌∙◌, ◌≡◌, Option, Some, refl, sym, subst}
+use Rattle.std.proofs.Common.{◌∙◌, Some, refl, sym, subst}
 use Rattle.zone_rdata.specs.Lent.{record_of}
 use Rattle.zone_rdata.specs.Record.{Record}
 use Rattle.zone_difference.proofs.Rrsets.{other_goes}
@@ -12,9 +12,9 @@ returns-else-is_removal_first-clause-taken c class gone come given =
     let r = record_of c.in-Some-Some.gone in
     let s = record_of c.in-Some-Some.come in
     let removals : AreTaken class (Some c.in-Some-Some.gone) c.args.self.now.removed gone =
-        subst (λ h. AreTaken class h c.args.self.now.removed gone) (sym c.take-removal.ensures.value ∙ c.in-Some-Some.is-0) given.removals in
+    subst (λ h. AreTaken class h c.args.self.now.removed gone) (sym c.take-removal.ensures.value ∙ c.in-Some-Some.is-0) given.removals in
     let additions : AreTaken class (Some c.in-Some-Some.come) c.args.self.now.added come =
-        subst (λ h. AreTaken class h c.args.self.now.added come) (sym c.take-addition.ensures.value ∙ c.in-Some-Some.is-1) given.additions in
+    subst (λ h. AreTaken class h c.args.self.now.added come) (sym c.take-addition.ensures.value ∙ c.in-Some-Some.is-1) given.additions in
     let goes = other_goes r s (λ first. (let is = c.is_removal_first.ensures.first.1 first in let other = c.if-is_removal_first.false in cc)) in
     record {
       gone_after = gone;

@@ -1,5 +1,5 @@
 -- A record that the other zone has is passed; the first that it lacks is returned.
-use Rattle.std.proofs.Common.{[], ◌∷◌, ◌≡◌, ap, arith, length, sym, subst}
+use Rattle.std.proofs.Common.{◌∷◌, ◌≡◌, ap, arith, length, sym, subst}
 use Rattle.std.specs.List.{AllByRecursion}
 use Rattle.zone_rdata.specs.Lent.{record_of}
 use Rattle.zone_rdata.specs.Record.{Record}
@@ -26,17 +26,23 @@ returns-then-not-pass_to-clause-taken c class only given =
     let each : AllByRecursion (λ (s : Record). s.class ≡ class) (r ∷ c.next.new.self) = subst (AllByRecursion (λ (s : Record). s.class ≡ class)) c.in-Some.ensures.steps left.sides.of_class in
     let new = with_taken c.pass_to.new.other c.pass_to.new.others in
     let found = record_found r c.next.new.self (others_of c.walk.self) new only up.0 c.pass_to.ensures.rest
-        (λ has. (let is = c.pass_to.ensures.has.1 has in let other = c.if-not-pass_to.true in cc))
-        (subst (λ l. AreWithout (Has (others_of c.walk.self)) l only) c.in-Some.ensures.steps left.are) in
-    (each.0, (found.0, found.1, record {
-      sides = record {
-        up = up.1;
-        up_others = c.pass_to.ensures.up;
-        of_class = each.1;
-        others_of_class = subst (λ n. AllByRecursion (λ (s : Record). s.class ≡ n) new) each.0 c.pass_to.ensures.of_class;
-      };
-      are = found.2;
-    }))
+    (λ has. (let is = c.pass_to.ensures.has.1 has in let other = c.if-not-pass_to.true in cc))
+    (subst (λ l. AreWithout (Has (others_of c.walk.self)) l only) c.in-Some.ensures.steps left.are) in (
+      each.0,
+      (
+        found.0,
+        found.1,
+        record {
+          sides = record {
+            up = up.1;
+            up_others = c.pass_to.ensures.up;
+            of_class = each.1;
+            others_of_class = subst (λ n. AllByRecursion (λ (s : Record). s.class ≡ n) new) each.0 c.pass_to.ensures.of_class;
+          };
+          are = found.2;
+        },
+      ),
+    )
 
 pub walk-preserved : goal.walk-preserved
 walk-preserved c =
