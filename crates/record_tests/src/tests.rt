@@ -10,6 +10,7 @@ mod handed;
 mod items;
 mod messages;
 mod names;
+mod names_in_data;
 mod parsing;
 mod primitives;
 mod records;

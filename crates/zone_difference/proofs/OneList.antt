@@ -1,10 +1,9 @@
 -- One list of changes, and what it says of the zones.
-use Rattle.zone_set.proofs.Common.{◌≡◌, List, [], ◌∷◌, refl, sym, ap, ◌∙◌, subst, inl, inr, ordering_reverse, AllByRecursion, Has, Record, IsZone}
+use Rattle.zone_set.proofs.Common.{◌≡◌, List, [], ◌∷◌, refl, sym, ap, ◌∙◌, subst, inl, inr, AllByRecursion, Has, Record, IsZone}
 use Rattle.std.specs.Prelude.{◌↔◌}
-use Rattle.zone_set.proofs.Ordering.SetOrder.{canonical_total}
 use Rattle.zone_set.specs.Zone.{Zone}
 use Rattle.zone_difference.proofs.OneDifference.{none_if_one, one_difference}
-use Rattle.zone_difference.proofs.Steps.{turn}
+use Rattle.zone_difference.proofs.Rrsets.{never_both}
 use Rattle.zone_difference.specs.Difference.{AreChanges, AreInOrder, Change, GoesBefore, addition, added_of, removal, removed_of}
 
 -- ---- no changes
@@ -25,7 +24,7 @@ none_of_one_zone z w changes is too are =
 
 pub other_way : (records others : List Record) (changes back : List Change) → AreChanges records others changes → AreChanges others records back → (removed_of back ≡ added_of changes) × (added_of back ≡ removed_of changes)
 other_way records others changes back are again =
-    one_difference others records (removed_of back) (added_of back) (added_of changes) (removed_of changes) again.difference (turn records others (removed_of changes) (added_of changes) are.difference)
+    one_difference others records (removed_of back) (added_of back) (added_of changes) (removed_of changes) again.difference (record { gone = are.difference.come; come = are.difference.gone })
 
 -- ---- one list
 
@@ -40,10 +39,6 @@ of_added c [] r each has = absurd has
 of_added c (addition s ∷ changes) r each (inl same) = subst (λ t. GoesBefore c (addition t)) (sym same) each.0
 of_added c (addition s ∷ changes) r each (inr has) = of_added c changes r each.1 has
 of_added c (removal s ∷ changes) r each has = of_added c changes r each.1 has
-
-never_both : (r s : Record) → GoesBefore (removal r) (addition s) → GoesBefore (addition s) (removal r) → ⊥
-never_both r s (inl less) back = let bad = sym less ∙ canonical_total.antisymm r s ∙ ap ordering_reverse back in cc bad
-never_both r s (inr tied) back = let bad = sym tied ∙ canonical_total.antisymm r s ∙ ap ordering_reverse back in cc bad
 
 parted : (r s : Record) (a b : List Change) → r ∷ removed_of a ≡ removed_of b → added_of a ≡ s ∷ added_of b → AllByRecursion (GoesBefore (removal r)) a → AllByRecursion (GoesBefore (addition s)) b → ⊥
 parted r s a b gone come first second =

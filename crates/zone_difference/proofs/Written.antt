@@ -5,43 +5,59 @@ use Rattle.std.specs.Io.KnownBytes.{Appends}
 use Rattle.std.specs.Prelude.{◌≢◌, Option}
 use Rattle.zone_print.proofs.Front.{Left, left_less, left_none, part_left, part_more}
 use Rattle.zone_print.specs.Writing.{AppendsPart}
-use Rattle.zone_difference.proofs.HaveChanges.{have_changes}
-use Rattle.zone_difference.specs.Difference.{AreChanges, Change, addition, removal}
+use Rattle.zone_set.specs.Order.{Ascends}
+use Rattle.zone_difference.proofs.Merged.{AreMerged, come_up, first_and, gone_up, have_merged, merged_changes}
+use Rattle.zone_difference.specs.Difference.{AreChanges, Change, IsDifference, addition, removal}
 use Rattle.zone_difference.specs.Text.{WritesChanges, WritesPart, change_line, changes_text}
-use Rattle.zone_difference.specs.Walk.{AreSides}
+use Rattle.zone_difference.specs.Walk.{AreLeft, TakesFirst}
+use Rattle.zone_difference.specs.declared.changes.Changes.{Changes}
 
 -- of the text of all changes the writer has still to take the lines that are gathered, and then
 -- those of the changes to come
-pub record ToWrite (records others left right : List Record) (old now : Option (List ℕ))
+pub record ToWrite (records others : List Record) (left : Changes) (old now : Option (List ℕ))
     (lines : List ℕ) : Type 0 where
-  pub sides : AreSides left right
-  pub ends : (more : List Change) → AreChanges left right more
+  pub class : ℕ
+  pub gone : List Record
+  pub come : List Record
+  pub left_are : AreLeft class left gone come
+  pub up : Ascends gone
+  pub come_up : Ascends come
+  pub ends : (more : List Change) → AreMerged gone come more
       → (all : List Change) × AreChanges records others all
       × Left old now (changes_text all) (lines ++ changes_text more)
 
-module _ (records others left right : List Record) (old now : Option (List ℕ)) (lines : List ℕ) where
+module _ (records others : List Record) (left : Changes) (old now : Option (List ℕ)) (lines : List ℕ) where
   -- a change is taken, and its line is gathered
-  pub gathered : (left' right' : List Record) (lines' : List ℕ) (c : Change) → ToWrite records others left right old now lines
-      → AreSides left' right' → ((more : List Change) → AreChanges left' right' more → AreChanges left right (c ∷ more))
-      → lines' ≡ lines ++ change_line c → ToWrite records others left' right' old now lines'
-  gathered left' right' lines' c w sides leads is = record {
-    sides = sides;
-    ends = λ more are. let (all, of_all, left_is) = w.ends (c ∷ more) (leads more are) in
+  pub gathered : (left' : Changes) (lines' : List ℕ) (c : Change) (w : ToWrite records others left old now lines) → TakesFirst w.class c left' w.gone w.come
+      → lines' ≡ lines ++ change_line c → ToWrite records others left' old now lines'
+  gathered left' lines' c w t is = record {
+    class = w.class;
+    gone = t.gone_after;
+    come = t.come_after;
+    left_are = t.left;
+    up = gone_up c w.gone w.come t.gone_after t.come_after w.up t.first;
+    come_up = come_up c w.gone w.come t.gone_after t.come_after w.come_up t.first;
+    ends = λ more are. let (all, of_all, left_is) = w.ends (c ∷ more) (first_and c w.gone w.come t.gone_after t.come_after more w.up w.come_up t.first are) in
         (all, of_all, subst (Left old now (changes_text all)) (sym (ap (λ t. t ++ changes_text more) is ∙ append_assoc lines (change_line c) (changes_text more))) left_is);
   }
 
   -- the lines are written
-  pub taken : (new : Option (List ℕ)) (part : List ℕ) → ToWrite records others left right old now lines → part ≡ lines → Appends now new part → ToWrite records others left right old new []
+  pub taken : (new : Option (List ℕ)) (part : List ℕ) → ToWrite records others left old now lines → part ≡ lines → Appends now new part → ToWrite records others left old new []
   taken new part w same written = record {
-    sides = w.sides;
+    class = w.class;
+    gone = w.gone;
+    come = w.come;
+    left_are = w.left_are;
+    up = w.up;
+    come_up = w.come_up;
     ends = λ more are. let (all, of_all, left_is) = w.ends more are in
         (all, of_all, left_less old now new (changes_text all) (lines ++ changes_text more) part (changes_text more) left_is (ap (λ t. t ++ changes_text more) (sym same)) written);
   }
 
   -- a part of them is
-  pub stopped : (new : Option (List ℕ)) (part : List ℕ) → ToWrite records others left right old now lines → part ≡ lines → AppendsPart now new part → WritesPart records others old new
+  pub stopped : (new : Option (List ℕ)) (part : List ℕ) → ToWrite records others left old now lines → part ≡ lines → AppendsPart now new part → WritesPart records others old new
   stopped new part w same written =
-      let found = have_changes left right w.sides.up w.sides.up_right in
+      let found = have_merged w.gone w.come w.up w.come_up in
       let (all, of_all, left_is) = w.ends found.0 found.1 in
       record {
         changes = all;
@@ -50,10 +66,10 @@ module _ (records others left right : List Record) (old now : Option (List ℕ))
       }
 
   -- nothing is, and a change is to come
-  pub refused : (left' right' : List Record) (c : Change) → ToWrite records others left right old now lines → AreSides left' right' → ((more : List Change) → AreChanges left' right' more → AreChanges left right (c ∷ more)) → WritesPart records others old now
-  refused left' right' c w sides leads =
-      let found = have_changes left' right' sides.up sides.up_right in
-      let (all, of_all, left_is) = w.ends (c ∷ found.0) (leads found.0 found.1) in
+  pub refused : (left' : Changes) (c : Change) (w : ToWrite records others left old now lines) → TakesFirst w.class c left' w.gone w.come → WritesPart records others old now
+  refused left' c w t =
+      let found = have_merged t.gone_after t.come_after (gone_up c w.gone w.come t.gone_after t.come_after w.up t.first) (come_up c w.gone w.come t.gone_after t.come_after w.come_up t.first) in
+      let (all, of_all, left_is) = w.ends (c ∷ found.0) (first_and c w.gone w.come t.gone_after t.come_after found.0 w.up w.come_up t.first found.1) in
       record {
         changes = all;
         are = of_all;
@@ -65,19 +81,22 @@ module _ (records others left right : List Record) (old now : Option (List ℕ))
       some_lines [] (addition r) rest e = cc
       some_lines (x ∷ front) d rest e = cc
 
+  none_left : (w : ToWrite records others left old now lines) → (w.gone ≡ []) × (w.come ≡ []) → AreMerged w.gone w.come []
+  none_left w (gone, come) = record { removed = sym gone; added = sym come; order = tt }
+
   -- all of them are, and no change is to come
-  pub ended : (new : Option (List ℕ)) (part : List ℕ) → ToWrite records others left right old now lines → AreChanges left right [] → part ≡ lines → Appends now new part → WritesChanges records others old new
+  pub ended : (new : Option (List ℕ)) (part : List ℕ) (w : ToWrite records others left old now lines) → (w.gone ≡ []) × (w.come ≡ []) → part ≡ lines → Appends now new part → WritesChanges records others old new
   ended new part w none same written =
-      let (all, of_all, left_is) = w.ends [] none in
+      let (all, of_all, left_is) = w.ends [] (none_left w none) in
       record {
         changes = all;
         are = of_all;
         written = left_none old now new (changes_text all) (lines ++ []) part left_is (ap (λ t. t ++ []) (sym same)) written;
       }
 
-  pub ended_part : (new : Option (List ℕ)) (part : List ℕ) → ToWrite records others left right old now lines → AreChanges left right [] → part ≡ lines → AppendsPart now new part → WritesPart records others old new
+  pub ended_part : (new : Option (List ℕ)) (part : List ℕ) (w : ToWrite records others left old now lines) → (w.gone ≡ []) × (w.come ≡ []) → part ≡ lines → AppendsPart now new part → WritesPart records others old new
   ended_part new part w none same written =
-      let (all, of_all, left_is) = w.ends [] none in
+      let (all, of_all, left_is) = w.ends [] (none_left w none) in
       record {
         changes = all;
         are = of_all;
@@ -85,12 +104,17 @@ module _ (records others left right : List Record) (old now : Option (List ℕ))
       }
 
 -- nothing is written yet
-pub begins : (records others left right : List Record) (old : Option (List ℕ)) (lines : List ℕ) → left ≡ records → right ≡ others → AreSides left right → lines ≡ [] → ToWrite records others left right old old lines
-begins records others left right old lines same same' sides none = record {
-  sides = sides;
-  ends = λ more are. (
+pub begins : (records others : List Record) (left : Changes) (old : Option (List ℕ)) (lines : List ℕ) (class : ℕ) (gone come : List Record) → AreLeft class left gone come → IsDifference records others gone come → lines ≡ [] → ToWrite records others left old old lines
+begins records others left old lines class gone come left_are d none = record {
+  class = class;
+  gone = gone;
+  come = come;
+  left_are = left_are;
+  up = d.gone.ascend;
+  come_up = d.come.ascend;
+  ends = λ more merged. (
     more,
-    subst (λ l. AreChanges l others more) same (subst (λ o. AreChanges left o more) same' are),
+    merged_changes records others gone come more d merged,
     record { front = []; split = sym (ap (λ t. t ++ changes_text more) none); taken = Appends-nil old },
   );
 }

@@ -1,7 +1,7 @@
 -- The difference of two zones: the records that go and those that come (RFC 1995 4).
 use Rattle.std.specs.Prelude.{◌≡◌, ◌↔◌, ◌⊎◌, List, [], ◌∷◌, ⊤}
 use Rattle.std.specs.List.{AllByRecursion}
-use Rattle.std.specs.declared.cmp.Ordering.TheVariants.{Equal, Less}
+use Rattle.std.specs.declared.cmp.Ordering.TheVariants.{Less}
 use Rattle.zone_rdata.specs.Record.{Record}
 use Rattle.zone_set.specs.Order.{Ascends, canonical_cmp}
 use Rattle.zone_set.specs.Zone.{Has}
@@ -36,12 +36,18 @@ added_of [] = []
 added_of (removal r ∷ changes) = added_of changes
 added_of (addition r ∷ changes) = r ∷ added_of changes
 
--- a change comes before another in canonical order; of two at one place, as records that differ in
--- their TTL are, the removal does
+-- two records of one RRset: they have one owner, class and type (RFC 2181 5)
+pub record AreOfOneRrset (r s : Record) : Type 0 where
+  pub owner : r.owner ≡ s.owner
+  pub class : r.class ≡ s.class
+  pub kind : r.kind ≡ s.kind
+
+-- a change comes before another in canonical order; but all removals of an RRset come before its
+-- additions
 abbrev pub GoesBefore : Change → Change → Type 0
 GoesBefore (removal r) (removal s) = canonical_cmp r s ≡ Less
-GoesBefore (removal r) (addition s) = (canonical_cmp r s ≡ Less) ⊎ (canonical_cmp r s ≡ Equal)
-GoesBefore (addition r) (removal s) = canonical_cmp r s ≡ Less
+GoesBefore (removal r) (addition s) = (canonical_cmp r s ≡ Less) ⊎ AreOfOneRrset r s
+GoesBefore (addition r) (removal s) = (canonical_cmp r s ≡ Less) × (AreOfOneRrset r s → ⊥)
 GoesBefore (addition r) (addition s) = canonical_cmp r s ≡ Less
 
 -- each change before all that follow it

@@ -1,8 +1,9 @@
 //! The difference of two zones: the records that go and those that come, in canonical order.
 #![tactic(auto)]
 
+mod changes;
 pub mod laws;
-mod next_change;
+mod only_in;
 mod write;
 
 pub use write::write_difference;

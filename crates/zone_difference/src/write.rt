@@ -3,7 +3,7 @@ ghost use Rattle.zone_print.specs.Device.{WorksOn};
 ghost use Rattle.zone_difference.specs.Text.{IsWriteStop, WritesChanges, WritesPart, change_line};
 ghost use Rattle.zone_difference.specs.Walk.{change_of};
 
-use crate::next_change::{ChangeRef, Sides};
+use crate::changes::{ChangeRef, Changes};
 use std::alloc::{AllocError, Global};
 use zone_print::{OctetWriter, push_line, write_octets};
 use zone_rdata::Stop;
@@ -30,9 +30,8 @@ fn push_change(change: &ChangeRef<'_>, out: &mut Vec<u8>) -> Result<(), AllocErr
 
 /// Writes the changes from one zone to another of its class, each as `- ` or `+ ` and the line of
 /// the record in the canonical text: the records of the first alone are removed, and those of the
-/// second alone are added, in canonical order. Of two at one place, as records that differ in their
-/// TTL are, the removal comes first. Nothing is written for one zone. It keeps some 64 KiB of lines,
-/// and doesn't flush the writer.
+/// second alone are added, in canonical order. Of one RRset all removals come before the additions.
+/// Nothing is written for one zone. It keeps some 64 KiB of lines, and doesn't flush the writer.
 ///
 /// # Errors
 ///
@@ -51,9 +50,9 @@ pub fn write_difference<W: OctetWriter>(
     ensures works { OnOk result (WorksOn (W.state writer.old) (W.state writer.new)) }
     ensures stopped { IfErr result (IsWriteStop (W.state writer.old) (W.state writer.new)) }
 {
-    let mut sides = Sides::of_zones(zone, other);
+    let mut changes = Changes::new(zone, other);
     let mut lines = Vec::new(alloc);
-    'walk: while let Some(change) = sides.next_change() {
+    'walk: while let Some(change) = changes.next() {
         push_change(&change, &mut lines)?;
         if lines.len() >= WRITE_LEN {
             write_octets(writer, &lines)?;

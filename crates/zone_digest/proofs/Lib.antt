@@ -1,5 +1,3 @@
-mod Walks
-mod Once
 mod Sets
 mod Soa
 mod SetOrder
@@ -10,7 +8,6 @@ mod FieldsOf
 mod OneVerdict
 mod SameDigest
 mod Putting
-mod Lowered
 mod SomeDigest
 mod Fits
 mod SameVerdict

@@ -10,7 +10,7 @@ use Rattle.zone_digest.specs.Digest.{IsDigest, IsDigested, IsLeftOut, IsLoweredR
 use Rattle.zone_digest.specs.Findings.{AreFindings, IsFinding}
 use Rattle.zone_digest.specs.Laws.{AreOfOneForm, DifferInLeftOut, DifferInLetters, HasNoPair, HasOneMore, TellsVerified}
 use Rattle.zone_digest.specs.Wanted.{StatesDigest}
-use Rattle.zone_digest.specs.NamesInData.{IsLowered, names_of}
+use Rattle.data_names.specs.NamesInData.{IsLowered, names_of}
 use Rattle.zone_digest.specs.Verdict.{digest_octets, digest_size, Fields, IsSerial, IsVerdictOn, IsVerified, IsWellFormed, IsZonemd, number, verified}
 use Rattle.zone_digest.specs.declared.algorithm.Algorithm.{Algorithm}
 use Rattle.zone_digest.specs.declared.algorithm.Algorithm.TheVariants.{Sha384, Sha512}
@@ -18,10 +18,9 @@ use Rattle.zone_digest.specs.declared.algorithm.ZoneDigest.{ZoneDigest}
 use Rattle.zone_digest.specs.declared.verdict.Finding.{Finding}
 use Rattle.zone_digest.specs.declared.verdict.Verdict.TheVariants.{Verified}
 use Rattle.zone_digest.proofs.FieldsOf.{one_number}
-use Rattle.zone_digest.proofs.Once.{lowered_once}
+use Rattle.data_names.proofs.Once.{lowered_once, two_kept}
 use Rattle.zone_digest.proofs.OneDigest.{same_digest}
 use Rattle.zone_digest.proofs.OneVerdict.{one_verdict}
-use Rattle.zone_digest.proofs.SetOrder.{two_kept}
 use Rattle.zone_digest.proofs.Sets.{record_same}
 
 -- ---- letters

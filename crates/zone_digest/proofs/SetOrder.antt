@@ -1,10 +1,10 @@
 -- Records of different sets lie ls these sets do, whatever letters the names in their data have.
-use Rattle.zone_set.proofs.Common.{[], ◌≡◌, ◌≢◌, ℕ, ◌≤◌, ◌==◌, List, ◌∷◌, ◌++◌, length, take, refl, sym, ap, ◌∙◌, subst, arith, if◌then◌else◌, Bool, true, false, Ordering, Equal, Less, Greater, Record, data_of, covered_octets, InOneSet, nat_cmp, nat_cmp_total, nat_list_cmp_total, name_cmp, name_cmp-total, name_cmp-exact, exact_unsigned, exact_bytes, slice_cmp, on, on_total, then_cmp, then_total, tied_itself, ordering_then, IsTotalOrder, ⊎_elim, ◌⊎◌}
+use Rattle.zone_set.proofs.Common.{[], ◌≡◌, ◌≢◌, ℕ, ◌==◌, List, ◌∷◌, take, refl, sym, ap, ◌∙◌, subst, arith, if◌then◌else◌, Bool, true, false, Ordering, Equal, Less, Greater, Record, data_of, covered_octets, InOneSet, nat_cmp, nat_cmp_total, nat_list_cmp_total, name_cmp, name_cmp-total, name_cmp-exact, exact_unsigned, exact_bytes, slice_cmp, on, on_total, then_cmp, then_total, tied_itself, ordering_then, IsTotalOrder, ⊎_elim, ◌⊎◌}
 use Rattle.std.proofs.lemmas.Cmp.{alike_right}
 use Rattle.zone_set.proofs.Ordering.SetOrder.{both_equal}
 use Rattle.zone_digest.specs.Digest.{digest_cmp, IsLoweredRecord}
-use Rattle.zone_digest.specs.NamesInData.{IsLowered, names_of, names_at, with_names, with_none}
-use Rattle.zone_digest.proofs.Walks.{one_place}
+use Rattle.data_names.specs.NamesInData.{IsLowered, names_of}
+use Rattle.data_names.proofs.Once.{two_kept}
 
 abbrev pub covers : Record → List ℕ
 covers r = covered_octets (data_of r)
@@ -64,18 +64,6 @@ pub by_sets : (r s : Record) → set_cmp r s ≡ Less → digest_cmp r s ≡ Les
 by_sets r s less = through_exact (name_cmp r.owner s.owner) (nat_cmp r.class s.class) (nat_cmp r.kind s.kind) (slice_cmp nat_cmp (covers r) (covers s)) (slice_cmp nat_cmp r.octets s.octets) (λ kind low. by_covers (r.kind == 46) (s.kind == 46) r.octets s.octets (ap (λ k. k == 46) (exact_unsigned r.kind s.kind kind)) low) less
 
 -- ---- letters of names in data don't tell sets apart
-first_two_alike : (front a b : List ℕ) → 2 ≤ length front → take 2 (front ++ a) ≡ take 2 (front ++ b)
-first_two_alike [] a b long = absurd (omega (arith, long))
-first_two_alike (c ∷ []) a b long = absurd (omega (arith, long))
-first_two_alike (c ∷ d ∷ front) a b long = refl
-
-pub two_kept : (octets low : List ℕ) → IsLowered (names_of 46 octets) octets low → take 2 low ≡ take 2 octets
-two_kept octets low (with_names p f n r is h e) =
-    let place : names_at 18 1 true ≡ p = one_place (names_at 18 1 true) p is in
-    let long : 2 ≤ length f = subst (λ k. 2 ≤ k) (ap (λ q. q.before) place ∙ sym h.before) (omega arith) in
-    ap (take 2) e ∙ first_two_alike f _ _ long ∙ ap (take 2) (sym h.parts)
-two_kept octets low (with_none other e) = ap (take 2) e
-
 covers_if : (k : ℕ) (octets low : List ℕ) (x : Bool) → (k == 46) ≡ x → IsLowered (names_of k octets) octets low → (if x then take 2 low else []) ≡ (if x then take 2 octets else [])
 covers_if k octets low false is lowered = refl
 covers_if k octets low true is lowered = two_kept octets low (subst (λ n. IsLowered (names_of n octets) octets low) (kind_is k is) lowered)

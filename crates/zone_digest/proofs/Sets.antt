@@ -12,8 +12,8 @@ use Rattle.zone_rdata.specs.declared.lent.RrRef.{RrRef}
 use Rattle.zone_digest.specs.Digest.{AscendsByOwner, digest_cmp, IsLoweredRecord, octets_with, record_octets}
 use Rattle.zone_digest.specs.Machine.Sets.{AreAlike, AreLowered, HasLowered, HasOctets, StaysLow}
 use Rattle.zone_set.proofs.Holding.Together.{each_Has}
-use Rattle.zone_digest.specs.NamesInData.{IsLowered, names_of}
-use Rattle.zone_digest.proofs.Once.{lowered_once, lowered_length}
+use Rattle.data_names.specs.NamesInData.{IsLowered, names_of}
+use Rattle.data_names.proofs.Once.{lowered_once, lowered_length}
 
 pub one_more : (set : List RrRef) (i : ℕ) (item : RrRef) → item ≡ get_or set i item → i < length set → map record_of (take (i + 1) set) ≡ map record_of (take i set) ++ record_of item ∷ []
 one_more set i item is fits =

@@ -8,10 +8,10 @@ use Rattle.zone_set.proofs.Holding.Together.{each_Has}
 use Rattle.zone_set.proofs.Ordering.SetOrder.{both_equal}
 use Rattle.zone_set.specs.Zone.{Zone}
 use Rattle.zone_digest.specs.Digest.{AscendsByOwner, digest_cmp, hashed, IsDigest, IsLeftOut, IsLoweredRecord, record_octets}
-use Rattle.zone_digest.specs.NamesInData.{names_of}
+use Rattle.data_names.specs.NamesInData.{names_of}
 use Rattle.zone_digest.specs.declared.algorithm.Algorithm.{Algorithm}
 use Rattle.zone_digest.specs.declared.algorithm.ZoneDigest.{ZoneDigest}
-use Rattle.zone_digest.proofs.Lowered.{low_of}
+use Rattle.data_names.proofs.Lowered.{low_of}
 use Rattle.zone_digest.proofs.Putting.{put}
 use Rattle.zone_digest.proofs.SameDigest.{one_form}
 use Rattle.zone_digest.proofs.SetOrder.{same_covers}

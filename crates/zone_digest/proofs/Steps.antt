@@ -9,8 +9,8 @@ use Rattle.std.proofs.lemmas.Grind.{flat_map-append}
 use Rattle.zone_digest.specs.Digest.{AreDigested, AscendsByOwner, digest_cmp, IsLeftOut, IsLoweredRecord, record_octets}
 use Rattle.zone_digest.specs.Machine.Sets.{AreAlike, AreLowered, AreOneSet, IsOfFirst}
 use Rattle.zone_digest.specs.Machine.Walk.{by_owner, IsWalked}
-use Rattle.zone_digest.specs.NamesInData.{names_of, with_none}
-use Rattle.zone_digest.proofs.Once.{lowered_once}
+use Rattle.data_names.specs.NamesInData.{names_of, with_none}
+use Rattle.data_names.proofs.Once.{lowered_once}
 use Rattle.zone_digest.proofs.Sets.{record_same}
 use Rattle.zone_digest.proofs.Soa.{by_owner_ascends, has_by_owner}
 use Rattle.zone_digest.proofs.SetOrder.{set_cmp, after_set, in_one_set, lowered_before, not_after, one_set_tied}

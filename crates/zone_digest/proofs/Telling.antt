@@ -12,8 +12,8 @@ use Rattle.zone_rdata.proofs.Octets.Sent.{append_same}
 use Rattle.zone_set.proofs.Holding.Together.{each_Has, each_from_Has}
 use Rattle.zone_set.specs.Zone.{Zone}
 use Rattle.zone_digest.specs.Digest.{AreDigestOctets, IsDigested, record_octets}
-use Rattle.zone_digest.proofs.Once.{lowered_length}
-use Rattle.zone_digest.specs.NamesInData.{names_of}
+use Rattle.data_names.proofs.Once.{lowered_length}
+use Rattle.data_names.specs.NamesInData.{names_of}
 use Rattle.zone_digest.proofs.Sets.{record_same}
 
 -- what can be got back from a record's octets

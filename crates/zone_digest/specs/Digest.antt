@@ -12,7 +12,8 @@ use Rattle.zone_name.specs.Order.{name_cmp}
 use Rattle.zone_rdata.specs.Order.{data_cmp}
 use Rattle.zone_rdata.specs.Record.{Record, data_of}
 use Rattle.zone_set.specs.Zone.{Has, Zone}
-use Rattle.zone_digest.specs.NamesInData.{IsLowered, names_of}
+use Rattle.data_names.specs.NamesInData as names
+use Rattle.data_names.specs.declared.table.FoldedTypes.TheVariants.{Canonical}
 use Rattle.zone_digest.specs.declared.algorithm.Algorithm.{Algorithm}
 use Rattle.zone_digest.specs.declared.algorithm.Algorithm.TheVariants as algorithms
 use Rattle.zone_digest.specs.declared.algorithm.ZoneDigest.{ZoneDigest}
@@ -35,12 +36,8 @@ IsLeftOut apex r =
     (r.owner ≡ apex) × ((r.kind ≡ 63) ⊎ ((r.kind ≡ 46) × (take 2 r.octets ≡ 0 ∷ 63 ∷ [])))
 
 -- the canonical form of a record (RFC 4034 6.2): the names in its data in lower case
-pub record IsLoweredRecord (r lower : Record) : Type 0 where
-  pub owner : lower.owner ≡ r.owner
-  pub class : lower.class ≡ r.class
-  pub kind : lower.kind ≡ r.kind
-  pub ttl : lower.ttl ≡ r.ttl
-  pub octets : IsLowered (names_of r.kind r.octets) r.octets lower.octets
+abbrev pub IsLoweredRecord : Record → Record → Type 0
+IsLoweredRecord r lower = names.IsLoweredRecord Canonical r lower
 
 -- by owner (RFC 4034 6.1), then by type, then by data (6.3); a zone has one class
 abbrev pub digest_cmp : Record → Record → Ordering

@@ -1,4 +1,3 @@
-pub mod NamesInData
 pub mod Digest
 pub mod Verdict
 pub mod Findings

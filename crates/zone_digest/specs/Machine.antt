@@ -1,5 +1,4 @@
 -- What only private functions, invariants and proofs cite.
-pub mod Front
 pub mod Sets
 pub mod Walk
 pub mod Reading

@@ -4,7 +4,7 @@ ghost use Rattle.std.specs.List.{AllByRecursion};
 ghost use Rattle.zone_digest.specs.Digest.{AreDigestOctets, AscendsByOwner, IsDigest, IsLeftOut};
 ghost use Rattle.zone_digest.specs.Machine.Sets.{AreAlike, IsOfFirst};
 ghost use Rattle.zone_digest.specs.Machine.Walk.{HasWalked, HaveOneClass};
-ghost use Rattle.zone_digest.specs.NamesInData.{names_of};
+ghost use Rattle.data_names.specs.NamesInData.{names_of};
 ghost use Rattle.zone_digest.specs.Verdict.{digest_octets, digest_size};
 ghost use Rattle.zone_name.specs.Common.{Labels};
 ghost use Rattle.zone_rdata.specs.Lent.{record_of};
@@ -14,7 +14,7 @@ ghost use Rattle.zone_set.specs.Zone.{covered_octets, InOneSet};
 use crate::algorithm::{Algorithm, ZoneDigest};
 use crate::emit::{add, add_set};
 use crate::ordered::OrderedRecords;
-use crate::table::may_have_names;
+use data_names::{FoldedTypes, may_have_names};
 use sha2::{Digest, Sha384, Sha512};
 use std::alloc::{AllocError, Global};
 use zone_name::NameRef;
@@ -107,7 +107,7 @@ fn waits(set: &[RrRef<'_>], rr: &RrRef<'_>) -> bool
     ensures { result ≡ false → (set.now ≡ [])
         × ((octets : List ℕ) → names_of (record_of rr.now).kind octets ≡ None) }
 {
-    may_have_names(rr.kind.number()) || !set.is_empty()
+    may_have_names(FoldedTypes::Canonical, rr.kind.number()) || !set.is_empty()
 }
 
 /// Whether a record is left out of the digest (RFC 8976 3.3.1).

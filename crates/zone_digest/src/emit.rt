@@ -7,7 +7,7 @@ ghost use Rattle.zone_digest.specs.Machine.Sets.{AreAlike, AreLowered, HasLowere
 ghost use Rattle.zone_rdata.specs.Lent.{record_of};
 ghost use Rattle.zone_rdata.specs.Record.{IsRecord, Record};
 
-use crate::lowering::{push_lowered, stays};
+use data_names::{FoldedTypes, push_lowered, stays_low};
 use sha2::Digest;
 use std::alloc::{AllocError, Global};
 use std::collections::BTreeSet;
@@ -114,7 +114,12 @@ fn lowered_set(alloc: Global, set: &[RrRef<'_>]) -> Result<BTreeSet<Vec<u8>>, Al
     let mut lowered = BTreeSet::new(alloc);
     for rr in set {
         let mut octets = Vec::new(alloc);
-        push_lowered(rr.kind.number(), rr.rdata.octets(), &mut octets)?;
+        push_lowered(
+            FoldedTypes::Canonical,
+            rr.kind.number(),
+            rr.rdata.octets(),
+            &mut octets,
+        )?;
         if let Err(_) = lowered.insert(octets) {
             return Err(AllocError);
         }
@@ -127,7 +132,7 @@ fn all_stay(set: &[RrRef<'_>]) -> bool
     ensures { IsTrue result → AllByRecursion StaysLow (map record_of set.now) }
 {
     for rr in set {
-        if !stays(rr.kind.number(), rr.rdata.octets()) {
+        if !stays_low(FoldedTypes::Canonical, rr.kind.number(), rr.rdata.octets()) {
             return false;
         }
     }

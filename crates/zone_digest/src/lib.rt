@@ -6,12 +6,9 @@ mod digest;
 mod emit;
 mod fields;
 pub mod laws;
-mod lowering;
-mod names;
 mod ordered;
 mod seen;
 mod serial;
-mod table;
 mod verdict;
 mod wanted;
 

@@ -5,7 +5,7 @@ use Rattle.std.specs.List.{AllByRecursion}
 use Rattle.zone_rdata.specs.Record.{Record}
 use Rattle.zone_set.specs.Zone.{Has, InOneSet}
 use Rattle.zone_digest.specs.Digest.{AscendsByOwner, IsLoweredRecord}
-use Rattle.zone_digest.specs.NamesInData.{IsLowered, names_of}
+use Rattle.data_names.specs.NamesInData.{IsLowered, names_of}
 
 -- records that differ in their data alone
 abbrev pub AreAlike : List Record → Type 0

@@ -26,8 +26,8 @@ impl Question for Difference {
 }
 
 /// Pairs of files: `== ` stands before the first, `--` before the second and `=>` after it. What is
-/// wanted is what GNU `diff` says of their canonical texts, sorted by owner, type and data, and `-`
-/// before `+`.
+/// wanted is what GNU `diff` says of their canonical texts, sorted by owner and type, then `-` before
+/// `+`, then by data.
 const PAIRS: &str = "\
 == @ 60 SOA . . 1 2 3 4 5
 @ 60 NS a
@@ -58,6 +58,38 @@ z 60 A 192.0.2.1
 --
 @ 60 SOA . . 1 2 3 4 5
 =>- z.x. 60 IN A 192.0.2.1
+== @ 60 SOA . . 1 2 3 4 5
+a 60 A 192.0.2.1
+a 60 A 192.0.2.3
+a 60 A 192.0.2.5
+a 60 AAAA 2001:db8::2
+b.a 60 A 192.0.2.9
+--
+@ 60 SOA . . 1 2 3 4 5
+a 60 A 192.0.2.2
+a 60 A 192.0.2.3
+a 60 A 192.0.2.4
+a 60 AAAA 2001:db8::1
+c.a 60 A 192.0.2.9
+=>- a.x. 60 IN A 192.0.2.1
+- a.x. 60 IN A 192.0.2.5
++ a.x. 60 IN A 192.0.2.2
++ a.x. 60 IN A 192.0.2.4
+- a.x. 60 IN AAAA 2001:db8::2
++ a.x. 60 IN AAAA 2001:db8::1
+- b.a.x. 60 IN A 192.0.2.9
++ c.a.x. 60 IN A 192.0.2.9
+== @ 60 SOA . . 1 2 3 4 5
+a 60 TXT a
+a 60 TXT b
+--
+@ 60 SOA . . 1 2 3 4 5
+a 61 TXT a
+a 61 TXT b
+=>- a.x. 60 IN TXT \"a\"
+- a.x. 60 IN TXT \"b\"
++ a.x. 61 IN TXT \"a\"
++ a.x. 61 IN TXT \"b\"
 == @ 60 SOA . . 1 2 3 4 5
 --
 @ 60 CH SOA . . 1 2 3 4 5

@@ -7,32 +7,39 @@ use Rattle.zone_difference.proofs.write.write_difference.Goals as goal
 pub returns-in_err-push_change-clause-part : goal.returns-in_err-push_change-clause-part
 returns-in_err-push_change-clause-part g c =
     let p = err_from_is_err_and c.from_residual.result c.from_residual.ensures.1 in
-    rw p.1 (refused _ _ _ _ _ _ _ _ _ (change_of c.in-Some.change) c.walk.invariant.write c.in-Some.ensures.sides c.in-Some.ensures.some)
+    let w = c.walk.invariant.write in
+    rw p.1 (refused _ _ _ _ _ _ _ (change_of c.in-Some.change) w (c.in-Some.ensures.taken w.class w.gone w.come w.left_are))
 
 pub returns-in_err-write_octets-clause-part : goal.returns-in_err-write_octets-clause-part
 returns-in_err-write_octets-clause-part g c =
     let p = err_from_is_err_and c.from_residual-in_err-write_octets.result c.from_residual-in_err-write_octets.ensures.1 in
-    let w = gathered _ _ _ _ _ _ _ _ _ _ (change_of c.in-Some.change) c.walk.invariant.write c.in-Some.ensures.sides c.in-Some.ensures.some c.in_ok-push_change.ensures in
-    rw p.1 (stopped _ _ _ _ _ _ _ _ _ w c.deref.ensures.value c.in_err-write_octets.ensures.part)
+    let v = c.walk.invariant.write in
+    let w = gathered _ _ _ _ _ _ _ _ (change_of c.in-Some.change) v (c.in-Some.ensures.taken v.class v.gone v.come v.left_are) c.in_ok-push_change.ensures in
+    rw p.1 (stopped _ _ _ _ _ _ _ _ w c.deref.ensures.value c.in_err-write_octets.ensures.part)
 
 pub walk-preserved-then-len-ge-WRITE_LEN : goal.walk-preserved-then-len-ge-WRITE_LEN
 walk-preserved-then-len-ge-WRITE_LEN g c =
-    let w = gathered _ _ _ _ _ _ _ _ _ _ (change_of c.in-Some.change) c.walk.invariant.write c.in-Some.ensures.sides c.in-Some.ensures.some c.in_ok-push_change.ensures in
+    let v = c.walk.invariant.write in
+    let w = gathered _ _ _ _ _ _ _ _ (change_of c.in-Some.change) v (c.in-Some.ensures.taken v.class v.gone v.come v.left_are) c.in_ok-push_change.ensures in
     record {
-      write = rw c.clear.ensures.items (taken _ _ _ _ _ _ _ _ _ w c.deref.ensures.value c.in_ok-write_octets.ensures.written);
+      write = rw c.clear.ensures.items (taken _ _ _ _ _ _ _ _ w c.deref.ensures.value c.in_ok-write_octets.ensures.written);
       works = λ worked. c.in_ok-write_octets.ensures.works (c.walk.invariant.works worked);
     }
 
 pub walk-preserved : goal.walk-preserved
-walk-preserved g c = record {
-  write = gathered _ _ _ _ _ _ _ _ _ _ (change_of c.in-Some.change) c.walk.invariant.write c.in-Some.ensures.sides c.in-Some.ensures.some c.in_ok-push_change.ensures;
-  works = c.walk.invariant.works;
-}
+walk-preserved g c =
+    let v = c.walk.invariant.write in
+    record {
+      write = gathered _ _ _ _ _ _ _ _ (change_of c.in-Some.change) v (c.in-Some.ensures.taken v.class v.gone v.come v.left_are) c.in_ok-push_change.ensures;
+      works = c.walk.invariant.works;
+    }
 
 pub returns-clause-text : goal.returns-clause-text
 returns-clause-text g c =
-    MatchResult-weaker c.write_octets-2.result c.write_octets-2.ensures.written (λ x written. ended _ _ _ _ _ _ _ _ _ c.walk.invariant.write c.in_default.ensures.none c.deref-2.ensures.value written) (λ stop h. h)
+    let w = c.walk.invariant.write in
+    MatchResult-weaker c.write_octets-2.result c.write_octets-2.ensures.written (λ x written. ended _ _ _ _ _ _ _ _ w (c.in_default.ensures.taken w.class w.gone w.come w.left_are) c.deref-2.ensures.value written) (λ stop h. h)
 
 pub returns-clause-part : goal.returns-clause-part
 returns-clause-part g c =
-    MatchResult-weaker c.write_octets-2.result c.write_octets-2.ensures.part (λ x h. h) (λ stop written. ended_part _ _ _ _ _ _ _ _ _ c.walk.invariant.write c.in_default.ensures.none c.deref-2.ensures.value written)
+    let w = c.walk.invariant.write in
+    MatchResult-weaker c.write_octets-2.result c.write_octets-2.ensures.part (λ x h. h) (λ stop written. ended_part _ _ _ _ _ _ _ _ w (c.in_default.ensures.taken w.class w.gone w.come w.left_are) c.deref-2.ensures.value written)

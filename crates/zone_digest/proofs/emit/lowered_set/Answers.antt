@@ -2,7 +2,7 @@ use Rattle.std.proofs.Common.{arith, ◌∙◌, ◌≡◌, ◌++◌, sym, ap, su
 use Rattle.std.proofs.lemmas.Map.Lookups.{exact_bytes}
 use Rattle.zone_rdata.specs.Lent.{record_of}
 use Rattle.zone_digest.proofs.Sets.{one_more, lowered_more, own_form}
-use Rattle.zone_digest.specs.NamesInData.{IsLowered, names_of}
+use Rattle.data_names.specs.NamesInData.{IsLowered, names_of}
 use Rattle.zone_digest.proofs.emit.lowered_set.Goals as goal
 
 pub loop-rr-preserved : goal.loop-rr-preserved

@@ -1,0 +1,2 @@
+pub mod NamesInData
+pub mod Machine

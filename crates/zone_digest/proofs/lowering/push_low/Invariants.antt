@@ -1,9 +1,0 @@
-use Rattle.std.proofs.Common.{◌≡◌, ◌++◌, map, length}
-use Rattle.zone_name.specs.Name.{folded_octet}
-use Rattle.zone_digest.proofs.lowering.push_low.Given as goal
-
-abbrev pub invariant-loop-octet : goal.invariant-loop-octet
-invariant-loop-octet l = l.out.items ++ map folded_octet l.left ≡ l.initial.out.items ++ map folded_octet l.octets
-
-abbrev pub decreases-loop-octet : goal.decreases-loop-octet
-decreases-loop-octet l = length l.left
