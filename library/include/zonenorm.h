@@ -33,7 +33,7 @@ typedef struct zonenorm_octets {
 enum zonenorm_kind {
     ZONENORM_FILE = 0,      /* a master file: ten types in presentation format, all in the generic form (RFC 3597) */
     ZONENORM_TRANSFER = 1,  /* a transfer as it came over TCP, each message after its length; no origin */
-    ZONENORM_ALL_TYPES = 2, /* a master file: 50 types in presentation format */
+    ZONENORM_ALL_TYPES = 2, /* a master file: 72 types in presentation format */
     ZONENORM_FILES = 3      /* reserved for the same with $INCLUDE and $GENERATE: ZONENORM_UNSUPPORTED in this release */
 };
 

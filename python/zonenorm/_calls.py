@@ -81,7 +81,7 @@ def normalise(data: Buffer, origin: str, *, words: bool = True, max_octets: int 
     r"""Return the canonical text of the zone that an input denotes.
 
     The input is a master file and its origin, with the final dot, or a zone transfer and the origin TRANSFER. With words=False
-    only ten types may be in presentation format, as with the command `zonenorm`; otherwise 50 types may. More than max_octets
+    only ten types may be in presentation format, as with the command `zonenorm`; otherwise 72 types may. More than max_octets
     octets are refused; the default is 1 GiB.
 
     Raises Refused, OriginError or MemoryError.

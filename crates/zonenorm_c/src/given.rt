@@ -16,7 +16,7 @@ pub const FILE: u32 = 0;
 /// The octets of a zone transfer as they came over TCP.
 pub const TRANSFER: u32 = 1;
 
-/// A master file with 50 types in presentation format: the ten, and the further types.
+/// A master file with 72 types in presentation format: the ten, and the further types.
 pub const ALL_TYPES: u32 = 2;
 
 /// An input, as a caller gives it.

@@ -12,7 +12,7 @@ pub struct Input<'a> {
 }
 
 impl<'a> Input<'a> {
-    /// A master file (RFC 1035 5) with 50 types in presentation format. The origin ends with its dot.
+    /// A master file (RFC 1035 5) with 72 types in presentation format. The origin ends with its dot.
     pub fn file(octets: &'a [u8], origin: &'a str) -> Input<'a> {
         Input { kind: ffi::ALL_TYPES, limit: 0, origin, octets }
     }
