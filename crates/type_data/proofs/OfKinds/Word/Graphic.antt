@@ -2,7 +2,7 @@
 -- terminal shows.
 unfoldable use Rattle.base64.specs.Rfc4648.{encode_symbols}
 use Rattle.std.specs.Prelude.{decimal}
-use Rattle.type_data.proofs.Common.{List, [], arith, certificate_types, codes, early_types, late_types, list_all, mnemonic_among, Named, notify_schemes, refl, registered_types, signed_types, subst, sym, true, w16, w8, ℕ, ◌<◌, ◌^◌}
+use Rattle.type_data.proofs.Common.{List, [], arith, certificate_types, codes, early_types, late_types, list_all, mnemonic_among, Named, notify_schemes, refl, registered_types, signed_types, subst, sym, true, w16, w8, ℕ, ◌<◌, ◌^◌, ◌≡◌}
 use Rattle.type_data.proofs.Printed.Graphic.{IsGraphicText, graphic_append, graphic_decimal, graphic_tested, graphic_word}
 use Rattle.zone_rdata.proofs.Texts.Standing.{are_bare}
 use Rattle.type_data.proofs.OfKinds.Number.Printed.{short}
