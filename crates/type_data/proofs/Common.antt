@@ -66,12 +66,13 @@ pub use Rattle.type_data.specs.Machine.Cuts.{IsCutFirst, IsCutLast, IsMissing}
 pub use Rattle.type_data.specs.Kinds.Location.Machine.{BeginsWithMinus, IsAfterMinus, IsCutAtHalf, IsNoHalf, IsWholeIn, UpTo, minus}
 pub use Rattle.type_data.specs.Parameters.Machine.Parts.{FailsEscaped, HasName, HasNoItems, IsAddressOf, IsKeyNumber, wrong}
 pub use Rattle.type_data.specs.Parameters.Machine.Stated.{AddsParameter, AreSent, FailsAfter, HasStated, Holds, again, all_sent, keyless, valueless}
-pub use Rattle.type_data.specs.Mnemonics.{IsAlgorithm, IsNumberOrMnemonic, IsTypeWord, algorithms, certificate_types, further_algorithms, name_of}
+pub use Rattle.type_data.specs.Mnemonics.{IsAlgorithm, IsNumberOrMnemonic, IsTypeWord, algorithms, certificate_types, further_algorithms, name_of, notify_schemes}
 pub use Rattle.type_data.specs.Parameters.{AreComplete, AreOnce, Ascend, BeginWithKey, BeginWithNoKey, FailsParameters, IsNew, IsShort, IsThere, Parameter, Precede, Sent, StateEach, StatesParameter, StatesParameters, all_required, bad_value, long_value, missing_key, no_key, repeated_key, sent, sent_octets}
 pub use Rattle.type_data.specs.Parameters.Keys.{SpellsKey, key_text}
 pub use Rattle.type_data.specs.Parameters.Text.{BeginWith, BeginWithTouchingQuote, ParameterText, alone, bare_value, placed, quoted_value}
 pub use Rattle.type_data.specs.Parameters.Value.{AscendAbove, FailsValue, HasEscapes, IsKeyText, IsProtocol, ListsAddresses, ListsItems, ListsKeys, ListsProtocols, RequiresKeys, StatesPath, StatesValue, bad_escape, listed}
-pub use Rattle.type_data.specs.Table.{FurtherType, IsFurtherWord, NamedField, RegisteredType, address_kind, field_of, further_in, further_names, further_of, further_type, further_types, in_words, is_one, key_kind, name_only, number_at, registered_of, registered_types, type_registry}
+unfoldable pub use Rattle.type_data.specs.Table.{early_types, late_types, signed_types}
+pub use Rattle.type_data.specs.Table.{FurtherType, IsFurtherWord, NamedField, RegisteredType, address_kind, field_of, further_in, further_names, further_of, further_type, further_types, in_words, is_one, key_kind, name_only, number_at, registered_of, registered_type, registered_types, type_registry}
 pub use Rattle.type_data.specs.Unescaped.{ComesToBadEscape, Unescaped}
 pub use Rattle.type_data.specs.declared.data_item.DataItem.{DataItem}
 pub use Rattle.type_data.specs.declared.fault.WordsFault.{WordsFault}

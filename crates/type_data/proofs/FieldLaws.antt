@@ -24,7 +24,7 @@ use Rattle.type_data.proofs.OfKinds.Salt.Once.{one_salt}
 use Rattle.type_data.proofs.OfKinds.Strings.Items.{string_once, strings_once}
 use Rattle.type_data.proofs.OfKinds.Time.Once.{time_fault_once, time_once, time_or_fault}
 use Rattle.type_data.proofs.OfKinds.Types.Items.{perhaps_types_once, types_once}
-use Rattle.type_data.proofs.OfKinds.Word.Once.{algorithm_once, certificate_type_once, type_word_once}
+use Rattle.type_data.proofs.OfKinds.Word.Once.{algorithm_once, certificate_type_once, notify_scheme_once, type_word_once}
 use Rattle.type_data.proofs.UnescapedTexts.{unescaped_once, unescaped_or_bad}
 use Rattle.type_data.specs.DataItem.{items_of}
 use Rattle.type_data.specs.EachItem.{EachStates, OneFails}
@@ -40,7 +40,7 @@ use Rattle.type_data.specs.Kinds.Salt.{IsSalt}
 use Rattle.type_data.specs.Kinds.Strings.{FailsPerhaps, FailsString, FailsStrings, StatesPerhaps, StatesString, StatesStrings, of_string}
 use Rattle.type_data.specs.Kinds.Value.{FailsQuotedValue, StatesQuotedValue}
 use Rattle.type_data.specs.declared.field.BareKind.{BareKind}
-use Rattle.type_data.specs.declared.field.BareKind.TheVariants.{AddressType, Algorithm, CertificateType, Discovery, Eui48, Eui64, Hash, HostIdentityTag, Ipv4, Ipv6, Name, NoAddress, NodeId, PublicKey, RecordType, Salt, Tag, Time, U8, U16, U32}
+use Rattle.type_data.specs.declared.field.BareKind.TheVariants.{AddressType, Algorithm, CertificateType, Discovery, Eui48, Eui64, Hash, HostIdentityTag, Ipv4, Ipv6, Name, NoAddress, NodeId, NotifyScheme, PublicKey, RecordType, Salt, Tag, Time, U8, U16, U32}
 use Rattle.type_data.specs.declared.field.FieldKind.{FieldKind}
 use Rattle.type_data.specs.declared.field.FieldKind.TheVariants.{Bare, Base64, Each, Hex, Location, Nothing, OneString, Parameters, PerhapsOneString, PerhapsTypes, Prefixes, QuotedValue, Strings, Types, Value}
 
@@ -90,6 +90,7 @@ text_is_one origin U16 text = by_number _ w16 (decimal_once text)
 text_is_one origin U32 text = by_number _ w32 (decimal_once text)
 text_is_one origin Algorithm text = by_number _ w8 (algorithm_once text)
 text_is_one origin CertificateType text = by_number _ w16 (certificate_type_once text)
+text_is_one origin NotifyScheme text = by_number _ w8 (notify_scheme_once text)
 text_is_one origin RecordType text = record { once = λ a b. in_octets_once _ w16 a b (type_word_once text); or_fault = λ octets fault p q. q.1 p.number p.stated; fault_once = λ a b p q. p.0 ∙ sym q.0 }
 text_is_one origin Time text = record { once = time_once text; or_fault = time_or_fault text; fault_once = time_fault_once text }
 text_is_one origin Name text = name_is_one origin text

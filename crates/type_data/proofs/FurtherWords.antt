@@ -1,6 +1,7 @@
 -- Words of further types: each is that of one type at most.
-use Rattle.type_data.proofs.Common.{Bool, FurtherType, IfNone, IfSome, IsCapped, IsFurtherWord, IsWordAmong, List, Named, None, NothingIs, Option, Some, ap, arith, by_mnemonic, by_number, codes, eqb-true, find_mapped, folded_label, found_each, found_passes, further_names, further_of, further_type, further_types, is_number, mnemonic_among, nat_lt, nat_tests, option_copied, option_map, own_numbers, refl, subst, sym, true, unlike, word_once, ℕ, ◌<◌, ◌==◌, ◌∙◌, ◌≡◌}
+use Rattle.type_data.proofs.Common.{Bool, FurtherType, IfNone, IfSome, IsCapped, IsFurtherWord, IsWordAmong, List, Named, None, NothingIs, Option, Some, ap, arith, by_mnemonic, by_number, codes, eqb-true, find_mapped, folded_label, found_each, found_passes, further_names, further_of, further_type, further_types, is_number, mnemonic_among, nat_lt, nat_tests, option_copied, option_map, own_numbers, refl, subst, sym, true, unlike, word_once, ℕ, ◌<◌, ◌==◌, ◌∙◌, ◌≡◌, early_types, late_types, signed_types, list_all, ◌≤◌}
 use Rattle.std.proofs.Common.{Bor}
+use Rattle.zone_rdata.specs.Table.{ascends}
 use Rattle.type_data.proofs.Registered.{IsRegistered, registered_further, registered_name}
 use Rattle.type_data.specs.declared.table.FurtherType as code
 use Rattle.type_data.proofs.OfKinds.Word.Once.{word_of_type_once}
@@ -9,8 +10,12 @@ abbrev pub IsWord : List ℕ → ℕ → Type 0
 IsWord word n = IsWordAmong further_names (codes "TYPE") word n
 
 pub further_number_once : (word : List ℕ) (m n : ℕ) → IsWord word m → IsWord word n → m ≡ n
-unfolding is_number own_numbers unlike
+unfolding is_number own_numbers unlike early_types late_types signed_types
 further_number_once word = word_once further_names (codes "TYPE") refl refl word
+
+pub further_ascend : ascends further_names ≡ true
+unfolding early_types late_types signed_types
+further_ascend = refl
 
 -- a word is that of one further type at most
 pub further_word_once : (word : List ℕ) (a b : FurtherType) → IsFurtherWord word a → IsFurtherWord word b → a ≡ b
@@ -22,12 +27,23 @@ further_word_once word a b p q =
 abbrev is_short : FurtherType → Bool
 is_short f = nat_lt f.number 65536
 
+are_short : list_all is_short further_types ≡ true
+unfolding early_types late_types signed_types
+are_short = refl
+
 -- the type of a number has that number, of 16 bits
 pub numbered : (n : ℕ) (f : FurtherType) → further_type n ≡ Some f → (n ≡ f.number) × (n < 65536)
 numbered n f e =
     let own : n ≡ f.number = eqb-true n f.number (found_passes (λ (f : FurtherType). n == f.number) further_types f e) in
-    let short : nat_lt f.number 65536 ≡ true = found_each is_short (λ (f : FurtherType). n == f.number) further_types f refl e in
+    let short : nat_lt f.number 65536 ≡ true = found_each is_short (λ (f : FurtherType). n == f.number) further_types f are_short e in
     (own, grind (arith, nat_tests))
+
+over_none : (n : ℕ) (found : Option FurtherType) → further_type n ≡ found → 65536 ≤ n → found ≡ None
+over_none n None e many = refl
+over_none n (Some f) e many = absurd (let own = numbered n f e in let low = own.1 in omega arith)
+
+pub no_type_over : (n : ℕ) → 65536 ≤ n → further_type n ≡ None
+no_type_over n many = over_none n (further_type n) refl many
 
 -- the word of a registered type whose number is that of a further type
 abbrev name_row : FurtherType → Named

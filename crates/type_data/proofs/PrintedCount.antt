@@ -1,8 +1,8 @@
 -- An entry with words that are printed never has too many items: a field has one, one for each octet
 -- at most, or those of types, of which there are 65,536.
-use Rattle.type_data.proofs.Common.{AllByRecursion, Bool, List, NamedField, None, Option, Some, TouchingItem, [], and_parts, ap, arith, false, false≢true, if◌then◌else◌, length, length-append, list_all, refl, true, ℕ, ◌&&◌, ◌+◌, ◌++◌, ◌==◌, ◌∷◌, ◌≡◌, ◌≤◌}
+use Rattle.type_data.proofs.Common.{AllByRecursion, Bool, List, NamedField, None, Option, Some, TouchingItem, [], and_parts, ap, arith, false, false≢true, if◌then◌else◌, length, length-append, list_all, refl, true, ℕ, ◌&&◌, ◌+◌, ◌++◌, ◌==◌, ◌∷◌, ◌≡◌, ◌≤◌, FurtherType, further_types, early_types, late_types, signed_types}
 use Rattle.type_data.proofs.OfKinds.Prefixes.Printed.{prefixes_printed_state}
-use Rattle.type_data.proofs.PrintedRows.{nine_fields, passed}
+use Rattle.type_data.proofs.PrintedRows.{nine_fields, passed, passes}
 use Rattle.type_data.proofs.PrintedStates.{apart_count, last_prints_all, one_item, perhaps_one}
 use Rattle.type_data.specs.Data.{in_order, joined, lengths_first}
 use Rattle.type_data.specs.Machine.PrintedFields.{OnlyLastPrintsAll}
@@ -94,8 +94,12 @@ ipseckey_counted : (kind : Option ℕ) → (is_counted (key_kind kind) && true) 
 ipseckey_counted None = refl
 ipseckey_counted (Some n) = key_counted (n == 0)
 
+each_is_counted : list_all (λ (f : FurtherType). passes are_counted f.fields) further_types ≡ true
+unfolding early_types late_types signed_types
+each_is_counted = refl
+
 counted_fields : (fields : Fields) → AreOfAType fields → (items : List TouchingItem) → are_counted (fields_in fields items) ≡ true
-counted_fields (same fields) are items = passed are_counted refl are.further are.row fields are.are
+counted_fields (same fields) are items = passed are_counted each_is_counted are.further are.row fields are.are
 counted_fields of_ipseckey are items = ipseckey_counted (number_at items 2)
 counted_fields of_amtrelay are items = refl
 counted_fields of_hip are items = refl

@@ -7,7 +7,7 @@ use Rattle.type_data.proofs.OfParameters.PrintedStated.{parameters_printed_state
 use Rattle.type_data.proofs.OfKinds.Address.Printed.{ipv4_printed_states, ipv6_printed_states}
 use Rattle.type_data.proofs.OfKinds.Gateway.Printed.{discovery_states, gateway_states}
 use Rattle.type_data.proofs.OfKinds.Location.Printed.{location_printed_states}
-use Rattle.type_data.proofs.OfKinds.Number.Printed.{algorithm_printed_states, certificate_printed_states, type_printed_states, u16_printed_states, u32_printed_states, u8_printed_states}
+use Rattle.type_data.proofs.OfKinds.Number.Printed.{algorithm_printed_states, certificate_printed_states, notify_scheme_printed_states, type_printed_states, u16_printed_states, u32_printed_states, u8_printed_states}
 use Rattle.type_data.proofs.OfKinds.Eui.ReadAgain.{eui_printed_states}
 use Rattle.type_data.proofs.OfKinds.NodeId.ReadAgain.{node_id_printed_states}
 use Rattle.type_data.proofs.OfKinds.Prefixes.Printed.{prefixes_printed_state}
@@ -33,7 +33,7 @@ use Rattle.type_data.specs.Machine.PrintedFields.{OnlyLastPrintsAll, prints_all}
 use Rattle.type_data.specs.PrintedData.{AreOfAType, PrintParts, PrintsApart, PrintsBare, PrintsData, PrintsField, apart}
 use Rattle.type_data.specs.Table.{Fields, fields_in, of_amtrelay, of_hip, of_ipseckey, same}
 use Rattle.type_data.specs.declared.field.BareKind.{BareKind}
-use Rattle.type_data.specs.declared.field.BareKind.TheVariants.{AddressType, Algorithm, CertificateType, Discovery, Eui48, Eui64, Hash, HostIdentityTag, Ipv4, Ipv6, Name, NoAddress, NodeId, PublicKey, RecordType, Salt, Tag, Time, U8, U16, U32}
+use Rattle.type_data.specs.declared.field.BareKind.TheVariants.{AddressType, Algorithm, CertificateType, Discovery, Eui48, Eui64, Hash, HostIdentityTag, Ipv4, Ipv6, Name, NoAddress, NodeId, NotifyScheme, PublicKey, RecordType, Salt, Tag, Time, U8, U16, U32}
 use Rattle.type_data.specs.declared.field.FieldKind.{FieldKind}
 use Rattle.type_data.specs.declared.field.FieldKind.TheVariants.{Bare, Base64, Each, Hex, Location, Nothing, OneString, Parameters, PerhapsOneString, PerhapsTypes, Prefixes, QuotedValue, Strings, Types, Value}
 
@@ -48,6 +48,7 @@ bare_printed_states origin U16 text octets printed = u16_printed_states text oct
 bare_printed_states origin U32 text octets printed = u32_printed_states text octets printed
 bare_printed_states origin Algorithm text octets printed = algorithm_printed_states text octets printed
 bare_printed_states origin CertificateType text octets printed = certificate_printed_states text octets printed
+bare_printed_states origin NotifyScheme text octets printed = notify_scheme_printed_states text octets printed
 bare_printed_states origin RecordType text octets printed = type_printed_states text octets printed
 bare_printed_states origin Time text octets printed = time_printed_states text octets printed
 bare_printed_states origin Name text octets printed = name_printed_states origin text octets printed

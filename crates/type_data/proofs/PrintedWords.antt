@@ -1,21 +1,22 @@
 -- Words that are printed aren't the generic form: their first item isn't its mark.
-use Rattle.type_data.proofs.Common.{Bool, IsGeneric, List, NamedField, RawItem, TouchingItem, [], ap, append-nil, arith, false, false≢true, generic_mark, length, refl, subst, sym, true, ℕ, ◌++◌, ◌∙◌, ◌∷◌, ◌≡◌, ◌≢◌}
+use Rattle.type_data.proofs.Common.{Bool, IsGeneric, List, NamedField, RawItem, TouchingItem, [], ap, append-nil, arith, false, false≢true, generic_mark, length, refl, subst, sym, true, ℕ, ◌++◌, ◌∙◌, ◌∷◌, ◌≡◌, ◌≢◌, early_types, late_types, signed_types, FurtherType, further_types, list_all}
 use Rattle.zone_rdata.specs.Item.{bare}
 use Rattle.zone_rdata.specs.Strings.{inside_text}
 use Rattle.type_data.proofs.OfKinds.Number.Printed.{u16_printed_states, u32_printed_states, u8_printed_states}
 use Rattle.type_data.proofs.OfKinds.Eui.ReadAgain.{eui_printed_states}
 use Rattle.type_data.proofs.OfKinds.Prefixes.Printed.{prefixes_printed_state}
-use Rattle.type_data.proofs.PrintedRows.{passed}
+use Rattle.type_data.proofs.PrintedRows.{passed, passes}
 use Rattle.type_data.proofs.PrintedStates.{items_apart, last_prints_all, one_item}
 use Rattle.type_data.specs.DataItem.{items_of}
 use Rattle.type_data.specs.Kinds.Base64.{IsBase64, PrintsBase64}
+use Rattle.type_data.specs.Kinds.Hexadecimal.{IsLowerHex, PrintsHex}
 use Rattle.type_data.specs.Machine.PrintedFields.{OnlyLastPrintsAll}
 use Rattle.type_data.specs.PrintedData.{AreOfAType, PrintParts, PrintsApart, PrintsBare, PrintsData, PrintsField}
 use Rattle.type_data.specs.Table.{Fields, fields_in, of_amtrelay, of_hip, of_ipseckey, same}
 use Rattle.type_data.specs.declared.field.BareKind.{BareKind}
 use Rattle.type_data.specs.declared.field.BareKind.TheVariants.{CertificateType, Eui48, Eui64, Name, RecordType, U8, U16, U32}
 use Rattle.type_data.specs.declared.field.FieldKind.{FieldKind}
-use Rattle.type_data.specs.declared.field.FieldKind.TheVariants.{Bare, Base64, Location, OneString, Prefixes, Strings}
+use Rattle.type_data.specs.declared.field.FieldKind.TheVariants.{Bare, Base64, Hex, Location, OneString, Prefixes, Strings}
 use Rattle.type_data.proofs.Printed.Marks.{marked, no_digits, text_marked}
 use Rattle.type_data.proofs.OfKinds.Word.NotGeneric.{no_certificate, no_type}
 use Rattle.type_data.proofs.OfKinds.Name.NotGeneric.{no_name}
@@ -23,6 +24,7 @@ use Rattle.type_data.proofs.OfKinds.Eui.NotGeneric.{no_eui}
 use Rattle.type_data.proofs.OfKinds.Strings.NotGeneric.{string_alone, strings_alone}
 use Rattle.type_data.proofs.OfKinds.Prefixes.NotGeneric.{prefixes_alone}
 use Rattle.type_data.proofs.OfKinds.Base64.NotGeneric.{base64_alone}
+use Rattle.type_data.proofs.OfKinds.Hexadecimal.NotGeneric.{hex_alone}
 use Rattle.type_data.proofs.OfKinds.Location.NotGeneric.{location_alone}
 
 -- ---- a bare text
@@ -61,6 +63,7 @@ is_plain OneString = true
 is_plain Strings = true
 is_plain Prefixes = true
 is_plain Base64 = true
+is_plain Hex = true
 is_plain Location = true
 is_plain kind = false
 
@@ -69,6 +72,9 @@ alone_again Prints items octets printed generic = subst IsGeneric (ap items_of p
 
 base64_field : (alone : List RawItem) (octets : List ℕ) → PrintsBase64 alone octets → IsGeneric alone → ⊥
 base64_field alone octets printed generic = base64_alone octets (subst (λ t. IsBase64 t octets) (text_marked printed.0 [] generic.0 (sym printed.2 ∙ generic.1)) printed.1)
+
+hex_field : (alone : List RawItem) (octets : List ℕ) → PrintsHex alone octets → IsGeneric alone → ⊥
+hex_field alone octets printed generic = hex_alone octets (subst (λ t. IsLowerHex t octets) (text_marked printed.0 [] generic.0 (sym printed.2 ∙ generic.1)) printed.1)
 
 field_plain : (kind : FieldKind) (items : List TouchingItem) (octets : List ℕ) → is_plain kind ≡ true → PrintsField kind items octets → IsGeneric (items_of items) → ⊥
 field_plain (Bare kind) items octets plain printed generic =
@@ -80,6 +86,7 @@ field_plain Strings items octets plain printed generic =
     strings_alone printed.printed.strings again.0 inside_text (sym printed.printed.printed ∙ again.1)
 field_plain Prefixes items octets plain printed generic = prefixes_alone printed.alone octets (prefixes_printed_state printed.alone octets printed.printed) (alone_again _ items octets printed generic)
 field_plain Base64 items octets plain printed generic = base64_field printed.alone octets printed.printed (alone_again _ items octets printed generic)
+field_plain Hex items octets plain printed generic = hex_field printed.alone octets printed.printed (alone_again _ items octets printed generic)
 field_plain Location items octets plain printed generic = location_alone printed.alone octets printed.printed (alone_again _ items octets printed generic)
 field_plain kind items octets plain printed generic = absurd (false≢true plain)
 
@@ -106,8 +113,12 @@ parts_plain (f ∷ g ∷ fields) plain last items (part ∷ parts) printed gener
 
 -- ---- the data of a type
 
+begin_each_plain : list_all (λ (f : FurtherType). passes begin_plain f.fields) further_types ≡ true
+unfolding early_types late_types signed_types
+begin_each_plain = refl
+
 plain_fields : (fields : Fields) → AreOfAType fields → (items : List TouchingItem) → begin_plain (fields_in fields items) ≡ true
-plain_fields (same fields) are items = passed begin_plain refl are.further are.row fields are.are
+plain_fields (same fields) are items = passed begin_plain begin_each_plain are.further are.row fields are.are
 plain_fields of_ipseckey are items = refl
 plain_fields of_amtrelay are items = refl
 plain_fields of_hip are items = refl

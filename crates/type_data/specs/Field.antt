@@ -23,12 +23,12 @@ use Rattle.type_data.specs.Kinds.Tag.{FailsTag, StatesTag}
 use Rattle.type_data.specs.Kinds.Time.{FailsTime, StatesTime}
 use Rattle.type_data.specs.Kinds.Types.{FailsPerhapsTypes, FailsTypes, StatesPerhapsTypes, StatesTypes}
 use Rattle.type_data.specs.Kinds.Value.{FailsQuotedValue, FailsValue, StatesQuotedValue, StatesValue}
-use Rattle.type_data.specs.Kinds.Word.{FailsAlgorithm, FailsCertificateType, FailsType, StatesAlgorithm, StatesCertificateType, StatesType}
+use Rattle.type_data.specs.Kinds.Word.{FailsAlgorithm, FailsCertificateType, FailsNotifyScheme, FailsType, StatesAlgorithm, StatesCertificateType, StatesNotifyScheme, StatesType}
 use Rattle.type_data.specs.Parameters.{FailsParameters, StatesParameters}
 use Rattle.type_data.specs.declared.fault.WordsFault.{WordsFault}
 use Rattle.type_data.specs.declared.fault.WordsFault.TheVariants.{NoBase32Hex, NoBase64, NoHexadecimal, NotAName, NotANumber, NotATag, NotATime, NotAType, NotAnAddress}
 use Rattle.type_data.specs.declared.field.BareKind.{BareKind}
-use Rattle.type_data.specs.declared.field.BareKind.TheVariants.{AddressType, Algorithm, CertificateType, Discovery, Eui48, Eui64, Hash, HostIdentityTag, Ipv4, Ipv6, Name, NoAddress, NodeId, PublicKey, RecordType, Salt, Tag, Time, U8, U16, U32}
+use Rattle.type_data.specs.declared.field.BareKind.TheVariants.{AddressType, Algorithm, CertificateType, Discovery, Eui48, Eui64, Hash, HostIdentityTag, Ipv4, Ipv6, Name, NoAddress, NodeId, NotifyScheme, PublicKey, RecordType, Salt, Tag, Time, U8, U16, U32}
 use Rattle.type_data.specs.declared.field.FieldKind.{FieldKind}
 use Rattle.type_data.specs.declared.field.FieldKind.TheVariants.{Bare, Base64, Each, Hex, Location, Nothing, OneString, Parameters, PerhapsOneString, PerhapsTypes, Prefixes, QuotedValue, Strings, Types, Value}
 
@@ -66,6 +66,7 @@ text_meaning origin U16 = meaning StatesU16 FailsU16
 text_meaning origin U32 = meaning StatesU32 FailsU32
 text_meaning origin Algorithm = meaning StatesAlgorithm FailsAlgorithm
 text_meaning origin CertificateType = meaning StatesCertificateType FailsCertificateType
+text_meaning origin NotifyScheme = meaning StatesNotifyScheme FailsNotifyScheme
 text_meaning origin RecordType = meaning StatesType FailsType
 text_meaning origin Time = meaning StatesTime FailsTime
 text_meaning origin Name = meaning (StatesName origin) (FailsName origin)

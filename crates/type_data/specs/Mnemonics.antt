@@ -56,6 +56,10 @@ certificate_types =
     ∷ row 254 (codes "OID")
     ∷ []
 
+-- the schemes of DSYNC (RFC 9859 2.1)
+abbrev pub notify_schemes : List Named
+notify_schemes = row 1 (codes "NOTIFY") ∷ []
+
 abbrev pub name_of : Mnemonic → Named
 name_of m = row m.0 m.1.now
 

@@ -26,12 +26,12 @@ use Rattle.type_data.specs.Kinds.Tag.{PrintsTag}
 use Rattle.type_data.specs.Kinds.Time.{PrintsTime}
 use Rattle.type_data.specs.Kinds.Types.{PrintsPerhapsTypes, PrintsTypes}
 use Rattle.type_data.specs.Kinds.Value.{PrintsValue}
-use Rattle.type_data.specs.Kinds.Word.{PrintsAlgorithm, PrintsCertificateType, PrintsType}
+use Rattle.type_data.specs.Kinds.Word.{PrintsAlgorithm, PrintsCertificateType, PrintsNotifyScheme, PrintsType}
 use Rattle.type_data.specs.Parameters.Printed.{PrintsParameters, written_touching}
 use Rattle.type_data.specs.Parameters.Text.{placed}
 use Rattle.type_data.specs.Table.{Fields, FurtherType, NamedField, fields_in, further_type}
 use Rattle.type_data.specs.declared.field.BareKind.{BareKind}
-use Rattle.type_data.specs.declared.field.BareKind.TheVariants.{AddressType, Algorithm, CertificateType, Discovery, Eui48, Eui64, Hash, HostIdentityTag, Ipv4, Ipv6, Name, NoAddress, NodeId, PublicKey, RecordType, Salt, Tag, Time, U8, U16, U32}
+use Rattle.type_data.specs.declared.field.BareKind.TheVariants.{AddressType, Algorithm, CertificateType, Discovery, Eui48, Eui64, Hash, HostIdentityTag, Ipv4, Ipv6, Name, NoAddress, NodeId, NotifyScheme, PublicKey, RecordType, Salt, Tag, Time, U8, U16, U32}
 use Rattle.type_data.specs.declared.field.FieldKind.{FieldKind}
 use Rattle.type_data.specs.declared.field.FieldKind.TheVariants.{Bare, Base64, Each, Hex, Location, Nothing, OneString, Parameters, PerhapsOneString, PerhapsTypes, Prefixes, QuotedValue, Strings, Types, Value}
 
@@ -42,6 +42,7 @@ PrintsBare U16 = PrintsU16
 PrintsBare U32 = PrintsU32
 PrintsBare Algorithm = PrintsAlgorithm
 PrintsBare CertificateType = PrintsCertificateType
+PrintsBare NotifyScheme = PrintsNotifyScheme
 PrintsBare RecordType = PrintsType
 PrintsBare Time = PrintsTime
 PrintsBare Name = PrintsName

@@ -1,13 +1,13 @@
 -- The registered types, a row each, their numbers ascending: the further types, with the section of
 -- the RFC that gives the words of each, and the rest, which stand in data alone.
-use Rattle.std.specs.Prelude.{◌≡◌, ℕ, List, [], ◌∷◌, ◌==◌, Bool, true, false, codes, filter_map, map, Option, Some, None, if◌then◌else◌}
+use Rattle.std.specs.Prelude.{◌≡◌, ℕ, List, [], ◌∷◌, ◌++◌, ◌==◌, Bool, true, false, codes, filter_map, map, Option, Some, None, if◌then◌else◌}
 use Rattle.std.specs.List.{find, slice_get}
 use Rattle.zone_rdata.specs.Table.{Named}
 use Rattle.zone_rdata.specs.Words.{IsWordAmong}
 use Rattle.type_data.specs.DataItem.{TouchingItem}
 use Rattle.type_data.specs.Kinds.Number.{stated_number}
 use Rattle.type_data.specs.declared.field.BareKind.{BareKind}
-use Rattle.type_data.specs.declared.field.BareKind.TheVariants.{AddressType, Algorithm, CertificateType, Discovery, Eui48, Eui64, Hash, HostIdentityTag, Ipv4, Ipv6, Name, NoAddress, NodeId, PublicKey, RecordType, Salt, Tag, Time, U16, U32, U8}
+use Rattle.type_data.specs.declared.field.BareKind.TheVariants.{AddressType, Algorithm, CertificateType, Discovery, Eui48, Eui64, Hash, HostIdentityTag, Ipv4, Ipv6, Name, NoAddress, NodeId, NotifyScheme, PublicKey, RecordType, Salt, Tag, Time, U16, U32, U8}
 use Rattle.type_data.specs.declared.field.Field.{Field}
 use Rattle.type_data.specs.declared.field.FieldKind.{FieldKind}
 use Rattle.type_data.specs.declared.field.FieldKind.TheVariants.{Bare, Base64, Each, Hex, Location, Nothing, OneString, Parameters, PerhapsOneString, PerhapsTypes, Prefixes, QuotedValue, Strings, Types, Value}
@@ -133,24 +133,25 @@ fields_in of_hip items = hip_fields
 
 -- ---- the table
 
--- the registered types (RFC 6895 3.1), their numbers ascending
-abbrev pub type_registry : List RegisteredType
-type_registry =
+-- the registered types (RFC 6895 3.1), their numbers ascending: those before DS
+unfoldable pub early_types : List RegisteredType
+early_types =
     name_only 1 (codes "A")
     ∷ name_only 2 (codes "NS")
-    ∷ name_only 3 (codes "MD")
-    ∷ name_only 4 (codes "MF")
+    ∷ in_every 3 (codes "MD") (field (codes "madname") (Bare Name) ∷ [])  -- RFC 1035 3.3.4
+    ∷ in_every 4 (codes "MF") (field (codes "madname") (Bare Name) ∷ [])  -- RFC 1035 3.3.5
     ∷ name_only 5 (codes "CNAME")
     ∷ name_only 6 (codes "SOA")
-    ∷ name_only 7 (codes "MB")
-    ∷ name_only 8 (codes "MG")
-    ∷ name_only 9 (codes "MR")
+    ∷ in_every 7 (codes "MB") (field (codes "madname") (Bare Name) ∷ [])  -- RFC 1035 3.3.3
+    ∷ in_every 8 (codes "MG") (field (codes "mgmname") (Bare Name) ∷ [])  -- RFC 1035 3.3.6
+    ∷ in_every 9 (codes "MR") (field (codes "newname") (Bare Name) ∷ [])  -- RFC 1035 3.3.8
     ∷ name_only 10 (codes "NULL")
     ∷ name_only 11 (codes "WKS")
     ∷ name_only 12 (codes "PTR")
     ∷ in_every 13 (codes "HINFO")  -- RFC 1035 3.3.2
     (field (codes "cpu") OneString ∷ field (codes "os") OneString ∷ [])
-    ∷ name_only 14 (codes "MINFO")
+    ∷ in_every 14 (codes "MINFO")  -- RFC 1035 3.3.7
+    (field (codes "rmailbx") (Bare Name) ∷ field (codes "emailbx") (Bare Name) ∷ [])
     ∷ name_only 15 (codes "MX")
     ∷ name_only 16 (codes "TXT")
     ∷ in_every 17 (codes "RP")  -- RFC 1183 2.2
@@ -163,16 +164,28 @@ type_registry =
     ∷ in_every 21 (codes "RT")  -- RFC 1183 3.3
     (field (codes "preference") (Bare U16) ∷ field (codes "host") (Bare Name) ∷ [])
     ∷ name_only 22 (codes "NSAP")
-    ∷ name_only 23 (codes "NSAP-PTR")
-    ∷ name_only 24 (codes "SIG")
-    ∷ name_only 25 (codes "KEY")
-    ∷ name_only 26 (codes "PX")
-    ∷ name_only 27 (codes "GPOS")
+    ∷ in_internet 23 (codes "NSAP-PTR") (field (codes "data") (Bare Name) ∷ [])  -- RFC 1348
+    ∷ in_every 24 (codes "SIG")  -- RFC 2535 4.1
+    (field (codes "type covered") (Bare RecordType) ∷ field (codes "algorithm") (Bare Algorithm)
+    ∷ field (codes "labels") (Bare U8) ∷ field (codes "original ttl") (Bare U32)
+    ∷ field (codes "expiration") (Bare Time) ∷ field (codes "inception") (Bare Time)
+    ∷ field (codes "key tag") (Bare U16) ∷ field (codes "signer") (Bare Name)
+    ∷ field (codes "signature") Base64 ∷ [])
+    ∷ in_every 25 (codes "KEY")  -- RFC 2535 3
+    (field (codes "flags") (Bare U16) ∷ field (codes "protocol") (Bare U8)
+    ∷ field (codes "algorithm") (Bare Algorithm) ∷ field (codes "public key") Base64 ∷ [])
+    ∷ in_internet 26 (codes "PX")  -- RFC 2163 4
+    (field (codes "preference") (Bare U16) ∷ field (codes "map822") (Bare Name)
+    ∷ field (codes "mapx400") (Bare Name) ∷ [])
+    ∷ in_every 27 (codes "GPOS")  -- RFC 1712 3
+    (field (codes "longitude") OneString ∷ field (codes "latitude") OneString
+    ∷ field (codes "altitude") OneString ∷ [])
     ∷ name_only 28 (codes "AAAA")
     ∷ in_every 29 (codes "LOC") (field (codes "data") Location ∷ [])  -- RFC 1876 3
     ∷ name_only 30 (codes "NXT")
-    ∷ name_only 31 (codes "EID")
-    ∷ name_only 32 (codes "NIMLOC")
+    ∷ in_every 31 (codes "EID") (field (codes "data") Hex ∷ [])  -- the IANA registry of types, 1995
+    ∷ in_every 32 (codes "NIMLOC")  -- the IANA registry of types, 1995
+    (field (codes "data") Hex ∷ [])
     ∷ name_only 33 (codes "SRV")
     ∷ name_only 34 (codes "ATMA")
     ∷ name_only 35 (codes "NAPTR")
@@ -183,9 +196,16 @@ type_registry =
     ∷ field (codes "algorithm") (Bare Algorithm) ∷ field (codes "certificate") Base64 ∷ [])
     ∷ name_only 38 (codes "A6")
     ∷ in_every 39 (codes "DNAME") (field (codes "target") (Bare Name) ∷ [])  -- RFC 6672 2.1
-    ∷ name_only 40 (codes "SINK")
+    ∷ in_every 40 (codes "SINK")  -- the IANA registry of types, 1997
+    (field (codes "meaning") (Bare U8) ∷ field (codes "coding") (Bare U8)
+    ∷ field (codes "subcoding") (Bare U8) ∷ field (codes "data") Base64 ∷ [])
     ∷ in_internet 42 (codes "APL") (field (codes "data") Prefixes ∷ [])  -- RFC 3123 4, 5
-    ∷ in_every 43 (codes "DS")  -- RFC 4034 5.3
+    ∷ []
+
+-- the types of signed zones, from DS on
+unfoldable pub signed_types : List RegisteredType
+signed_types =
+    in_every 43 (codes "DS")  -- RFC 4034 5.3
     (field (codes "key tag") (Bare U16) ∷ field (codes "algorithm") (Bare Algorithm)
     ∷ field (codes "digest type") (Bare U8) ∷ field (codes "digest") Hex ∷ [])
     ∷ in_every 44 (codes "SSHFP")  -- RFC 4255 3.2
@@ -214,13 +234,22 @@ type_registry =
     ∷ in_every 52 (codes "TLSA")  -- RFC 6698 2.2
     (field (codes "usage") (Bare U8) ∷ field (codes "selector") (Bare U8)
     ∷ field (codes "matching type") (Bare U8) ∷ field (codes "data") Hex ∷ [])
-    ∷ in_every 53 (codes "SMIMEA")  -- RFC 8162 2
+    ∷ []
+
+-- those from SMIMEA on
+unfoldable pub late_types : List RegisteredType
+late_types =
+    in_every 53 (codes "SMIMEA")  -- RFC 8162 2
     (field (codes "usage") (Bare U8) ∷ field (codes "selector") (Bare U8)
     ∷ field (codes "matching type") (Bare U8) ∷ field (codes "data") Hex ∷ [])
     ∷ of_its_own 55 (codes "HIP") of_hip
-    ∷ name_only 56 (codes "NINFO")
-    ∷ name_only 57 (codes "RKEY")
-    ∷ name_only 58 (codes "TALINK")
+    ∷ in_every 56 (codes "NINFO")  -- the IANA registry of types, 2008
+    (field (codes "data") Strings ∷ [])
+    ∷ in_every 57 (codes "RKEY")  -- the IANA registry of types, 2008
+    (field (codes "flags") (Bare U16) ∷ field (codes "protocol") (Bare U8)
+    ∷ field (codes "algorithm") (Bare Algorithm) ∷ field (codes "public key") Base64 ∷ [])
+    ∷ in_every 58 (codes "TALINK")  -- the IANA registry of types, 2010
+    (field (codes "previous") (Bare Name) ∷ field (codes "next") (Bare Name) ∷ [])
     ∷ in_every 59 (codes "CDS")  -- RFC 7344 3.1
     (field (codes "key tag") (Bare U16) ∷ field (codes "algorithm") (Bare Algorithm)
     ∷ field (codes "digest type") (Bare U8) ∷ field (codes "digest") Hex ∷ [])
@@ -240,7 +269,9 @@ type_registry =
     ∷ in_internet 65 (codes "HTTPS")  -- RFC 9460 9
     (field (codes "priority") (Bare U16) ∷ field (codes "target") (Bare Name)
     ∷ field (codes "parameters") Parameters ∷ [])
-    ∷ name_only 66 (codes "DSYNC")
+    ∷ in_every 66 (codes "DSYNC")  -- RFC 9859 2.1
+    (field (codes "rrtype") (Bare RecordType) ∷ field (codes "scheme") (Bare NotifyScheme)
+    ∷ field (codes "port") (Bare U16) ∷ field (codes "target") (Bare Name) ∷ [])
     ∷ name_only 67 (codes "HHIT")
     ∷ name_only 68 (codes "BRID")
     ∷ in_every 99 (codes "SPF") (field (codes "data") Strings ∷ [])  -- RFC 4408 3.1.1
@@ -267,13 +298,21 @@ type_registry =
     ∷ name_only 258 (codes "AVC")
     ∷ name_only 259 (codes "DOA")
     ∷ of_its_own 260 (codes "AMTRELAY") of_amtrelay
-    ∷ name_only 261 (codes "RESINFO")
-    ∷ name_only 262 (codes "WALLET")
+    ∷ in_every 261 (codes "RESINFO") (field (codes "data") Strings ∷ [])  -- RFC 9606 4
+    ∷ in_every 262 (codes "WALLET")  -- the IANA registry of types, 2024
+    (field (codes "data") Strings ∷ [])
     ∷ name_only 263 (codes "CLA")
     ∷ name_only 264 (codes "IPN")
-    ∷ name_only 32768 (codes "TA")
-    ∷ name_only 32769 (codes "DLV")
+    ∷ in_every 32768 (codes "TA")  -- the IANA registry of types, 2005
+    (field (codes "key tag") (Bare U16) ∷ field (codes "algorithm") (Bare Algorithm)
+    ∷ field (codes "digest type") (Bare U8) ∷ field (codes "digest") Hex ∷ [])
+    ∷ in_every 32769 (codes "DLV")  -- RFC 4431 2
+    (field (codes "key tag") (Bare U16) ∷ field (codes "algorithm") (Bare Algorithm)
+    ∷ field (codes "digest type") (Bare U8) ∷ field (codes "digest") Hex ∷ [])
     ∷ []
+
+abbrev pub type_registry : List RegisteredType
+type_registry = early_types ++ (signed_types ++ late_types)
 
 -- their numbers and mnemonics
 abbrev pub named : RegisteredType → Named
@@ -282,6 +321,10 @@ named (name_only number mnemonic) = record { number = number; mnemonic = mnemoni
 
 abbrev pub registered_types : List Named
 registered_types = map named type_registry
+
+-- the registered type of a number
+abbrev pub registered_type : ℕ → Option RegisteredType
+registered_type n = find (λ (row : RegisteredType). n == (named row).number) type_registry
 
 -- the further types among them
 abbrev pub further_in : RegisteredType → Option FurtherType

@@ -13,9 +13,9 @@ use crate::kinds::{
     Version, read_address, read_address_type, read_algorithm, read_base64, read_certificate_type,
     read_counted_digits, read_discovery, read_eui48, read_eui64, read_first_quoted_value,
     read_first_string, read_first_value, read_hash, read_hex, read_location, read_name,
-    read_no_address, read_node_id, read_nothing, read_perhaps_string, read_perhaps_types,
-    read_prefixes, read_public_key, read_salt, read_strings, read_tag, read_time, read_type,
-    read_types, read_u8, read_u16, read_u32,
+    read_no_address, read_node_id, read_nothing, read_notify_scheme, read_perhaps_string,
+    read_perhaps_types, read_prefixes, read_public_key, read_salt, read_strings, read_tag,
+    read_time, read_type, read_types, read_u8, read_u16, read_u32,
 };
 use crate::parameters::read_parameters;
 use zone_name::CasedName;
@@ -34,6 +34,8 @@ pub enum BareKind {
     Algorithm,
     /// The type of a certificate, in digits or by its mnemonic (RFC 4398 2.1).
     CertificateType,
+    /// The scheme of DSYNC, in digits or by its mnemonic (RFC 9859 2.1).
+    NotifyScheme,
     /// A type by its word (RFC 4034 3.1.1).
     RecordType,
     /// A time in seconds, or a date and a time of day (RFC 4034 3.2).
@@ -119,6 +121,7 @@ impl BareKind {
             | BareKind::U32
             | BareKind::Algorithm
             | BareKind::CertificateType
+            | BareKind::NotifyScheme
             | BareKind::AddressType(_)
             | BareKind::Discovery => WordsFault::NotANumber,
             BareKind::RecordType => WordsFault::NotAType,
@@ -153,6 +156,7 @@ impl BareKind {
             BareKind::U32 => read_u32(text, out),
             BareKind::Algorithm => read_algorithm(text, out),
             BareKind::CertificateType => read_certificate_type(text, out),
+            BareKind::NotifyScheme => read_notify_scheme(text, out),
             BareKind::RecordType => read_type(text, out),
             BareKind::Time => read_time(text, out),
             BareKind::Name => read_name(text, origin, out),

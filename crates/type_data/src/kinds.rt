@@ -52,6 +52,6 @@ pub(crate) use time::{print_time, read_time};
 pub(crate) use types::{print_perhaps_types, print_types, read_perhaps_types, read_types};
 pub(crate) use value::{print_value_item, read_first_quoted_value, read_first_value};
 pub(crate) use word::{
-    print_algorithm, print_certificate_type, print_type, read_algorithm, read_certificate_type,
-    read_type,
+    print_algorithm, print_certificate_type, print_notify_scheme, print_type, read_algorithm,
+    read_certificate_type, read_notify_scheme, read_type,
 };

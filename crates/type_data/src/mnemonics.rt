@@ -3,10 +3,10 @@ ghost use Rattle.std.specs.Prelude.{◌≡◌, IfSome, IfNone, map, option_map};
 ghost use Rattle.zone_name.specs.Common.{NothingIs};
 ghost use Rattle.zone_rdata.specs.Words.{IsKind};
 ghost use Rattle.zone_rdata.specs.Table.{mnemonic_among};
-ghost use Rattle.type_data.specs.Mnemonics.{IsTypeWord, certificate_types};
+ghost use Rattle.type_data.specs.Mnemonics.{IsTypeWord, certificate_types, notify_schemes};
 ghost use Rattle.type_data.specs.Table.{registered_types};
 
-use crate::table::{TYPES, number_of_type};
+use crate::table::{number_of_type, type_numbered};
 use zone_rdata::{Kind, Row, row_of};
 
 /// A number and its mnemonic.
@@ -56,7 +56,10 @@ pub fn type_mnemonic(number: u16) -> Option<&'static [u8]>
     ensures { option_map (λ text. text.now) result
         ≡ mnemonic_among registered_types number }
 {
-    mnemonic_in(TYPES, number)
+    match type_numbered(number) {
+        Some(row) => Some(row.mnemonic()),
+        None => None,
+    }
 }
 
 /// The mnemonic of a type of certificates (RFC 4398 2.1), in upper case. `None`: it has none.
@@ -65,6 +68,14 @@ pub fn certificate_mnemonic(number: u16) -> Option<&'static [u8]>
         ≡ mnemonic_among certificate_types number }
 {
     mnemonic_in(CERTIFICATE_TYPES, number)
+}
+
+/// The mnemonic of a scheme of DSYNC (RFC 9859 2.1), in upper case. `None`: it has none.
+pub(crate) fn notify_scheme_mnemonic(number: u8) -> Option<&'static [u8]>
+    ensures { option_map (λ text. text.now) result
+        ≡ mnemonic_among notify_schemes number }
+{
+    mnemonic_in(NOTIFY_SCHEMES, u16::from(number))
 }
 
 /// The mnemonic of a number among rows.
@@ -122,3 +133,6 @@ pub(crate) static CERTIFICATE_TYPES: &[Mnemonic] = &[
     Mnemonic(253, b"URI"),
     Mnemonic(254, b"OID"),
 ];
+
+/// The schemes of DSYNC (RFC 9859 2.1).
+pub(crate) static NOTIFY_SCHEMES: &[Mnemonic] = &[Mnemonic(1, b"NOTIFY")];

@@ -11,9 +11,9 @@ use crate::kinds::{
     Version, print_address, print_address_type, print_algorithm, print_base64_item,
     print_certificate_type, print_discovery, print_eui, print_hash, print_hex,
     print_host_identity_tag, print_location, print_name, print_no_address, print_node_id,
-    print_perhaps_types, print_prefixes, print_public_key, print_salt, print_string, print_strings,
-    print_tag, print_time, print_type, print_types, print_u8, print_u16, print_u32,
-    print_value_item,
+    print_notify_scheme, print_perhaps_types, print_prefixes, print_public_key, print_salt,
+    print_string, print_strings, print_tag, print_time, print_type, print_types, print_u8,
+    print_u16, print_u32, print_value_item,
 };
 use crate::parameters::print_parameters;
 use crate::unprinted::Unprinted;
@@ -41,6 +41,7 @@ impl BareKind {
             BareKind::U32 => print_u32(octets, out),
             BareKind::Algorithm => print_algorithm(octets, out),
             BareKind::CertificateType => print_certificate_type(octets, out),
+            BareKind::NotifyScheme => print_notify_scheme(octets, out),
             BareKind::RecordType => print_type(octets, out),
             BareKind::Time => print_time(octets, out),
             BareKind::Name => print_name(octets, out),

@@ -1,17 +1,15 @@
 //! The registered types, a row each, their numbers ascending: the further types, with the section
 //! of the RFC that gives the words of each, and the rest, which stand in data alone.
-ghost use Rattle.std.specs.List.{find};
-ghost use Rattle.std.specs.Prelude.{◌≡◌, ◌==◌, IfSome, IfNone, codes, filter_map, map, option_copied, true};
+ghost use Rattle.std.specs.Prelude.{◌≡◌, IfSome, IfNone, codes, map, option_copied};
 ghost use Rattle.std.specs.Option.{option_map};
 ghost use Rattle.zone_name.specs.Common.{NothingIs};
 ghost use Rattle.zone_rdata.specs.Number.{IsCapped};
-ghost use Rattle.zone_rdata.specs.Table.{ascends};
 ghost use Rattle.zone_rdata.specs.Words.{IsWordAmong};
-ghost use Rattle.type_data.specs.Table.{IsFurtherWord, further_in, further_of, further_type, named, registered_of, registered_types};
+ghost use Rattle.type_data.specs.Table.{IsFurtherWord, early_types, further_in, further_of, further_type, late_types, named, registered_of, registered_type, registered_types, signed_types};
 
 use crate::field::BareKind::{
-    Algorithm, CertificateType, Eui48, Eui64, Hash, Ipv4, Name, NodeId, RecordType, Salt, Tag,
-    Time, U8, U16, U32,
+    Algorithm, CertificateType, Eui48, Eui64, Hash, Ipv4, Name, NodeId, NotifyScheme, RecordType,
+    Salt, Tag, Time, U8, U16, U32,
 };
 use crate::field::Field;
 use crate::field::FieldKind::{
@@ -74,34 +72,51 @@ impl RegisteredType {
     }
 }
 
-/// The number of DS. Most records in words are of this type and those after it.
+/// The number of DS, the first type of signed zones, of which most records of further types are.
 const DS: u16 = 43;
 
-/// How many registered types stand before it.
-const EARLY: usize = 41;
+/// The number of SMIMEA, the first type after those of signed zones.
+const SMIMEA: u16 = 53;
 
-/// How many from it on are the types of signed zones, whose words stand there most.
-const SIGNED: usize = 10;
-
-/// The further type of a number. `None`: it is that of none.
-pub(crate) fn further_type_numbered(number: u16) -> Option<&'static FurtherType>
-    ensures { option_map further_of (option_copied result) ≡ further_type number }
+/// The registered types before DS.
+fn early_types() -> &'static [RegisteredType]
+    ensures { map registered_of result.now ≡ early_types }
 {
-    let (early, late) = TYPES.split_at(EARLY);
+    EARLY_TYPES
+}
+
+/// The types of signed zones, from DS on.
+fn signed_types() -> &'static [RegisteredType]
+    ensures { map registered_of result.now ≡ signed_types }
+{
+    SIGNED_TYPES
+}
+
+/// The registered types from SMIMEA on.
+fn late_types() -> &'static [RegisteredType]
+    ensures { map registered_of result.now ≡ late_types }
+{
+    LATE_TYPES
+}
+
+/// The registered type of a number. `None`: it is that of none.
+pub(crate) fn type_numbered(number: u16) -> Option<&'static RegisteredType>
+    ensures { option_map registered_of (option_copied result) ≡ registered_type number }
+{
     if number < DS {
-        further_among(early, number)
+        row_of(early_types(), number)
+    } else if number < SMIMEA {
+        row_of(signed_types(), number)
     } else {
-        further_among(late, number)
+        row_of(late_types(), number)
     }
 }
 
-/// The further type of a number among rows. `None`: it is that of none.
-fn further_among(rows: &'static [RegisteredType], number: u16) -> Option<&'static FurtherType>
-    requires { ascends (map named (map registered_of rows.now)) ≡ true }
-    ensures { option_map further_of (option_copied result)
-        ≡ find (λ f. number == f.number) (filter_map further_in (map registered_of rows.now)) }
+/// The further type of a number. `None`: it is that of none.
+fn further_type_numbered(number: u16) -> Option<&'static FurtherType>
+    ensures { option_map further_of (option_copied result) ≡ further_type number }
 {
-    match row_of(rows, number) {
+    match type_numbered(number) {
         Some(row) => row.further(),
         None => None,
     }
@@ -114,14 +129,12 @@ pub(crate) fn number_of_type(word: &[u8]) -> Option<u64>
     ensures none { IfNone result
         (NothingIs (IsWordAmong registered_types (codes "TYPE") word.now)) }
 {
-    let (early, late) = TYPES.split_at(EARLY);
-    let (signed, last) = late.split_at(SIGNED);
-    if let Some(number) = number_of_word(signed, b"TYPE", word) {
+    if let Some(number) = number_of_word(signed_types(), b"TYPE", word) {
         return Some(number);
     }
-    match number_of_word(early, b"TYPE", word) {
+    match number_of_word(early_types(), b"TYPE", word) {
         Some(number) => Some(number),
-        None => number_of_word(last, b"TYPE", word),
+        None => number_of_word(late_types(), b"TYPE", word),
     }
 }
 
@@ -147,18 +160,33 @@ fn further_type_counted(number: u64) -> Option<&'static FurtherType>
     }
 }
 
-/// The registered types (RFC 6895 3.1). The definitions have the same rows.
+/// The registered types before DS (RFC 6895 3.1). The definitions have the same rows.
 #[rattlefmt::skip]
-pub(crate) static TYPES: &[RegisteredType] = &[
+static EARLY_TYPES: &[RegisteredType] = &[
     NameOnly(Mnemonic(1, b"A")),
     NameOnly(Mnemonic(2, b"NS")),
-    NameOnly(Mnemonic(3, b"MD")),
-    NameOnly(Mnemonic(4, b"MF")),
+    // RFC 1035 3.3.4
+    InWords(FurtherType { number: 3, mnemonic: "MD", in_internet_alone: false, fields: Same(&[
+        Field("madname", Bare(Name)),
+    ]) }),
+    // RFC 1035 3.3.5
+    InWords(FurtherType { number: 4, mnemonic: "MF", in_internet_alone: false, fields: Same(&[
+        Field("madname", Bare(Name)),
+    ]) }),
     NameOnly(Mnemonic(5, b"CNAME")),
     NameOnly(Mnemonic(6, b"SOA")),
-    NameOnly(Mnemonic(7, b"MB")),
-    NameOnly(Mnemonic(8, b"MG")),
-    NameOnly(Mnemonic(9, b"MR")),
+    // RFC 1035 3.3.3
+    InWords(FurtherType { number: 7, mnemonic: "MB", in_internet_alone: false, fields: Same(&[
+        Field("madname", Bare(Name)),
+    ]) }),
+    // RFC 1035 3.3.6
+    InWords(FurtherType { number: 8, mnemonic: "MG", in_internet_alone: false, fields: Same(&[
+        Field("mgmname", Bare(Name)),
+    ]) }),
+    // RFC 1035 3.3.8
+    InWords(FurtherType { number: 9, mnemonic: "MR", in_internet_alone: false, fields: Same(&[
+        Field("newname", Bare(Name)),
+    ]) }),
     NameOnly(Mnemonic(10, b"NULL")),
     NameOnly(Mnemonic(11, b"WKS")),
     NameOnly(Mnemonic(12, b"PTR")),
@@ -166,7 +194,10 @@ pub(crate) static TYPES: &[RegisteredType] = &[
     InWords(FurtherType { number: 13, mnemonic: "HINFO", in_internet_alone: false, fields: Same(&[
         Field("cpu", OneString), Field("os", OneString),
     ]) }),
-    NameOnly(Mnemonic(14, b"MINFO")),
+    // RFC 1035 3.3.7
+    InWords(FurtherType { number: 14, mnemonic: "MINFO", in_internet_alone: false, fields: Same(&[
+        Field("rmailbx", Bare(Name)), Field("emailbx", Bare(Name)),
+    ]) }),
     NameOnly(Mnemonic(15, b"MX")),
     NameOnly(Mnemonic(16, b"TXT")),
     // RFC 1183 2.2
@@ -190,19 +221,44 @@ pub(crate) static TYPES: &[RegisteredType] = &[
         Field("preference", Bare(U16)), Field("host", Bare(Name)),
     ]) }),
     NameOnly(Mnemonic(22, b"NSAP")),
-    NameOnly(Mnemonic(23, b"NSAP-PTR")),
-    NameOnly(Mnemonic(24, b"SIG")),
-    NameOnly(Mnemonic(25, b"KEY")),
-    NameOnly(Mnemonic(26, b"PX")),
-    NameOnly(Mnemonic(27, b"GPOS")),
+    // RFC 1348
+    InWords(FurtherType { number: 23, mnemonic: "NSAP-PTR", in_internet_alone: true, fields: Same(&[
+        Field("data", Bare(Name)),
+    ]) }),
+    // RFC 2535 4.1
+    InWords(FurtherType { number: 24, mnemonic: "SIG", in_internet_alone: false, fields: Same(&[
+        Field("type covered", Bare(RecordType)), Field("algorithm", Bare(Algorithm)),
+        Field("labels", Bare(U8)), Field("original ttl", Bare(U32)),
+        Field("expiration", Bare(Time)), Field("inception", Bare(Time)),
+        Field("key tag", Bare(U16)), Field("signer", Bare(Name)), Field("signature", Base64),
+    ]) }),
+    // RFC 2535 3
+    InWords(FurtherType { number: 25, mnemonic: "KEY", in_internet_alone: false, fields: Same(&[
+        Field("flags", Bare(U16)), Field("protocol", Bare(U8)),
+        Field("algorithm", Bare(Algorithm)), Field("public key", Base64),
+    ]) }),
+    // RFC 2163 4
+    InWords(FurtherType { number: 26, mnemonic: "PX", in_internet_alone: true, fields: Same(&[
+        Field("preference", Bare(U16)), Field("map822", Bare(Name)), Field("mapx400", Bare(Name)),
+    ]) }),
+    // RFC 1712 3
+    InWords(FurtherType { number: 27, mnemonic: "GPOS", in_internet_alone: false, fields: Same(&[
+        Field("longitude", OneString), Field("latitude", OneString), Field("altitude", OneString),
+    ]) }),
     NameOnly(Mnemonic(28, b"AAAA")),
     // RFC 1876 3
     InWords(FurtherType { number: 29, mnemonic: "LOC", in_internet_alone: false, fields: Same(&[
         Field("data", Location),
     ]) }),
     NameOnly(Mnemonic(30, b"NXT")),
-    NameOnly(Mnemonic(31, b"EID")),
-    NameOnly(Mnemonic(32, b"NIMLOC")),
+    // The IANA registry of types, 1995
+    InWords(FurtherType { number: 31, mnemonic: "EID", in_internet_alone: false, fields: Same(&[
+        Field("data", Hex),
+    ]) }),
+    // The IANA registry of types, 1995
+    InWords(FurtherType { number: 32, mnemonic: "NIMLOC", in_internet_alone: false, fields: Same(&[
+        Field("data", Hex),
+    ]) }),
     NameOnly(Mnemonic(33, b"SRV")),
     NameOnly(Mnemonic(34, b"ATMA")),
     NameOnly(Mnemonic(35, b"NAPTR")),
@@ -220,11 +276,20 @@ pub(crate) static TYPES: &[RegisteredType] = &[
     InWords(FurtherType { number: 39, mnemonic: "DNAME", in_internet_alone: false, fields: Same(&[
         Field("target", Bare(Name)),
     ]) }),
-    NameOnly(Mnemonic(40, b"SINK")),
+    // The IANA registry of types, 1997
+    InWords(FurtherType { number: 40, mnemonic: "SINK", in_internet_alone: false, fields: Same(&[
+        Field("meaning", Bare(U8)), Field("coding", Bare(U8)), Field("subcoding", Bare(U8)),
+        Field("data", Base64),
+    ]) }),
     // RFC 3123 4, 5
     InWords(FurtherType { number: 42, mnemonic: "APL", in_internet_alone: true, fields: Same(&[
         Field("data", Prefixes),
     ]) }),
+];
+
+/// The types of signed zones, from DS on.
+#[rattlefmt::skip]
+static SIGNED_TYPES: &[RegisteredType] = &[
     // RFC 4034 5.3
     InWords(FurtherType { number: 43, mnemonic: "DS", in_internet_alone: false, fields: Same(&[
         Field("key tag", Bare(U16)), Field("algorithm", Bare(Algorithm)),
@@ -273,6 +338,11 @@ pub(crate) static TYPES: &[RegisteredType] = &[
         Field("usage", Bare(U8)), Field("selector", Bare(U8)), Field("matching type", Bare(U8)),
         Field("data", Hex),
     ]) }),
+];
+
+/// The registered types from SMIMEA on.
+#[rattlefmt::skip]
+static LATE_TYPES: &[RegisteredType] = &[
     // RFC 8162 2
     InWords(FurtherType { number: 53, mnemonic: "SMIMEA", in_internet_alone: false, fields: Same(&[
         Field("usage", Bare(U8)), Field("selector", Bare(U8)), Field("matching type", Bare(U8)),
@@ -280,9 +350,19 @@ pub(crate) static TYPES: &[RegisteredType] = &[
     ]) }),
     // RFC 8005 6
     InWords(FurtherType { number: 55, mnemonic: "HIP", in_internet_alone: false, fields: Hip }),
-    NameOnly(Mnemonic(56, b"NINFO")),
-    NameOnly(Mnemonic(57, b"RKEY")),
-    NameOnly(Mnemonic(58, b"TALINK")),
+    // The IANA registry of types, 2008
+    InWords(FurtherType { number: 56, mnemonic: "NINFO", in_internet_alone: false, fields: Same(&[
+        Field("data", Strings),
+    ]) }),
+    // The IANA registry of types, 2008
+    InWords(FurtherType { number: 57, mnemonic: "RKEY", in_internet_alone: false, fields: Same(&[
+        Field("flags", Bare(U16)), Field("protocol", Bare(U8)),
+        Field("algorithm", Bare(Algorithm)), Field("public key", Base64),
+    ]) }),
+    // The IANA registry of types, 2010
+    InWords(FurtherType { number: 58, mnemonic: "TALINK", in_internet_alone: false, fields: Same(&[
+        Field("previous", Bare(Name)), Field("next", Bare(Name)),
+    ]) }),
     // RFC 7344 3.1
     InWords(FurtherType { number: 59, mnemonic: "CDS", in_internet_alone: false, fields: Same(&[
         Field("key tag", Bare(U16)), Field("algorithm", Bare(Algorithm)),
@@ -315,7 +395,11 @@ pub(crate) static TYPES: &[RegisteredType] = &[
     InWords(FurtherType { number: 65, mnemonic: "HTTPS", in_internet_alone: true, fields: Same(&[
         Field("priority", Bare(U16)), Field("target", Bare(Name)), Field("parameters", Parameters),
     ]) }),
-    NameOnly(Mnemonic(66, b"DSYNC")),
+    // RFC 9859 2.1
+    InWords(FurtherType { number: 66, mnemonic: "DSYNC", in_internet_alone: false, fields: Same(&[
+        Field("rrtype", Bare(RecordType)), Field("scheme", Bare(NotifyScheme)),
+        Field("port", Bare(U16)), Field("target", Bare(Name)),
+    ]) }),
     NameOnly(Mnemonic(67, b"HHIT")),
     NameOnly(Mnemonic(68, b"BRID")),
     // RFC 4408 3.1.1
@@ -363,10 +447,25 @@ pub(crate) static TYPES: &[RegisteredType] = &[
     // RFC 8777 4.3
     InWords(FurtherType { number: 260, mnemonic: "AMTRELAY", in_internet_alone: false,
         fields: Amtrelay }),
-    NameOnly(Mnemonic(261, b"RESINFO")),
-    NameOnly(Mnemonic(262, b"WALLET")),
+    // RFC 9606 4
+    InWords(FurtherType { number: 261, mnemonic: "RESINFO", in_internet_alone: false,
+        fields: Same(&[
+        Field("data", Strings),
+    ]) }),
+    // The IANA registry of types, 2024
+    InWords(FurtherType { number: 262, mnemonic: "WALLET", in_internet_alone: false, fields: Same(&[
+        Field("data", Strings),
+    ]) }),
     NameOnly(Mnemonic(263, b"CLA")),
     NameOnly(Mnemonic(264, b"IPN")),
-    NameOnly(Mnemonic(32768, b"TA")),
-    NameOnly(Mnemonic(32769, b"DLV")),
+    // The IANA registry of types, 2005
+    InWords(FurtherType { number: 32768, mnemonic: "TA", in_internet_alone: false, fields: Same(&[
+        Field("key tag", Bare(U16)), Field("algorithm", Bare(Algorithm)),
+        Field("digest type", Bare(U8)), Field("digest", Hex),
+    ]) }),
+    // RFC 4431 2
+    InWords(FurtherType { number: 32769, mnemonic: "DLV", in_internet_alone: false, fields: Same(&[
+        Field("key tag", Bare(U16)), Field("algorithm", Bare(Algorithm)),
+        Field("digest type", Bare(U8)), Field("digest", Hex),
+    ]) }),
 ];

@@ -1,5 +1,6 @@
 -- A line ends with data of a further type in one way.
 use Rattle.std.proofs.Common.{◌≡◌, ◌≢◌, ℕ, ◌<◌, ◌==◌, ◌||◌, inl, inr, Bool, true, not, List, [], ◌∷◌, ◌++◌, length, refl, ap, arith, sym, subst, ◌∙◌, append_assoc, append-nil}
+use Rattle.type_data.proofs.FurtherWords.{numbered}
 use Rattle.hex.specs.Hex.{encode_lower}
 unfoldable use Rattle.hex.specs.Hex.{encode_with}
 use Rattle.std.proofs.lemmas.Bool.{false≢true}
@@ -257,13 +258,10 @@ one_word ahead word front back (inr one) (inr two) p q same =
 
 -- ---- the data at the end of a line that is cut
 
-abbrev is_short : FurtherType → Bool
-is_short f = nat_lt f.number 65536
-
 pub type_is_further : (further : FurtherType) → further_type further.number ≡ Some further → IsFurtherWord (type_text further.number) further
 type_is_further further row =
-    let short : nat_lt further.number 65536 ≡ true = found_each is_short (λ (f : FurtherType). further.number == f.number) further_types further refl row in
-    let low : further.number < 2 ^ 64 = grind (arith, nat_tests) in
+    let short : further.number < 65536 = (numbered further.number further row).1 in
+    let low : further.number < 2 ^ 64 = omega arith in
     record {
       named = by_number (record { front = codes "TYPE"; digits = decimal further.number; parts = refl; named = refl; number = decimal-is further.number low });
       row = row;

@@ -12,7 +12,7 @@ use Rattle.zone_text.specs.Outcome.{AreOctetItems}
 use Rattle.zone_text.specs.Records.{HasValue}
 use Rattle.zone_text.specs.Statements.{class, ttl}
 use Rattle.zone_words.proofs.Common.{AllByRecursion, AreOnOneLine, Bool, Entry, FurtherType, HasClass, IsCasedOrigin, IsClass, IsClassWord, IsFurtherRecord, IsFurtherWord, Labels, List, MatchOption, NamesOrigin, None, Option, Parts, RawItem, Some, SpellsCased-faultless, Word, [], ap, arith, cases_lt, class_word, class_word_once, codes, directive, false, false≢true, further_names, further_type, if◌then◌else◌, in_class, includes, inl, inr, is_blank, latest, line_feeds_in, origin_items, owned, parts_in, refl, sets_origin, sets_ttl, statement_by, statement_of, subst, sym, true, unknown, unowned, ⊤, ℕ, ◌<◌, ◌==◌, ◌∙◌, ◌∷◌, ◌≡◌, ◌≤◌, ◌⊎◌}
-use Rattle.type_data.proofs.FurtherWords.{IsWord, further_number_once, further_word_once, numbered}
+use Rattle.type_data.proofs.FurtherWords.{IsWord, further_ascend, further_number_once, further_word_once, numbered}
 use Rattle.zone_words.proofs.Origins.{origin_once}
 
 -- ---- the origin
@@ -105,7 +105,7 @@ further_by word n is None e = inr (λ f p. absurd (let same : further_type n ≡
 further_by word n is (Some f) e = let own : n ≡ f.number = (numbered n f e).0 in inl (f, record { named = subst (IsWord word) own is; row = ap further_type (sym own) ∙ e })
 
 pub further_or_not : (word : List ℕ) → Choice (IsFurtherWord word)
-further_or_not word = elim (word_or_not further_names (codes "TYPE") refl word) [
+further_or_not word = elim (word_or_not further_names (codes "TYPE") further_ascend word) [
   | inr none ↦ inr (λ f p. none f.number p.named)
   | inl found ↦ further_by word found.0 found.1 (further_type found.0) refl
 ]

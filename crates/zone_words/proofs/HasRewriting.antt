@@ -7,7 +7,7 @@ use Rattle.zone_text.specs.Tokens as tokens
 use Rattle.zone_words.proofs.Common.{AllByRecursion-back, AllByRecursion-front, Anew, AreOctets, AreOnOneLine, BecomesUnder, Breaks, Cuts, EachBecomes, Entry, Fault, FurtherType, IsCasedOrigin, IsFurtherRecord, IsFurtherUnder, IsGeneric, IsMnemonic, IsRefused, IsRewriting, Labels, LineFeedWithinQuotes, List, Outcome, RawItem, Refused, SaysAnew, Token, TooManyItems, TouchingItem, Written, [], and_last, anew, ap, append_assoc, arith, blank, broken, by_mnemonic, cases_lt, closing, codes, comment, count_by, cut_from, cut_or_broken, cut_whole, entries_text, entry_of, flat_map, flat_map-append, further_names, in_generic_form, inl, inr, item_of, item_text, kept, length, line_feed, most_items, no_data, on_more_lines, opening, refl, refusal, refused, renamed, subst, sym, text, text_of_entries, token_text, told_of, too_many, touching_items, true, written, written_of, written_text, zero, ℕ, ◌++◌, ◌+◌, ◌<◌, ◌==◌, ◌∙◌, ◌∷◌, ◌≡◌, ◌≤◌, ◌⊎◌}
 use Rattle.zone_words.proofs.DecidedEntries.{AreLowEntries, OriginChoice, RecordChoice, on_one_line_or_not, origin_or_not, record_or_not}
 use Rattle.type_data.proofs.Decided.Fields.{DataOrFault, data_decided}
-use Rattle.type_data.proofs.FurtherWords.{further_number_once}
+use Rattle.type_data.proofs.FurtherWords.{further_ascend, further_number_once}
 use Rattle.zone_words.proofs.Turns.{IsSplit, fails_in_words, fails_under, items_behind, record_once, says_under, split_there}
 use Rattle.type_data.specs.Data.{in_order}
 use Rattle.type_data.specs.DataItem.{items_of}
@@ -136,7 +136,7 @@ module _ (origin : Labels) (before : List Entry) (line : ℕ) (all_tokens : List
     many_or_few (inr many) = inl many
 
     by_form : IsCasedName above → AreOctetItems (items_of (touching_items true back)) → Decided (IsGeneric (items_of (touching_items true back))) → HasOutcome
-    by_form is low (inl generic) = in_form generic (many_or_few (cases_lt (length (entry_of line all_tokens).items) most_items)) (on_one_line_or_not (items_of (touching_items true back))) (own_mnemonic (mnemonic_or_not further_names refl (written_text units)))
+    by_form is low (inl generic) = in_form generic (many_or_few (cases_lt (length (entry_of line all_tokens).items) most_items)) (on_one_line_or_not (items_of (touching_items true back))) (own_mnemonic (mnemonic_or_not further_names further_ascend (written_text units)))
     by_form is low (inr words) = in_own_words words is low (many_or_few (cases_lt (length (entry_of line all_tokens).items) most_items)) (on_one_line_or_not (items_of (touching_items true back)))
 
   split_record : (word : List ℕ) (items : List RawItem) (further : FurtherType) (above : Labels) → IsFurtherRecord before (entry_of line all_tokens) word items further → IsCasedOrigin origin before above → IsCasedName above → AreOctetItems (flat_map item_of all_tokens) → IsSplit all_tokens word items → HasOutcome

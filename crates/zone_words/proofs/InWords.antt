@@ -1,5 +1,6 @@
 -- A record in words on one line is rewritten as the record with its data in the generic form.
 use Rattle.zone_words.proofs.Common.{AllByRecursion, BecomesUnder, Bool, FurtherType, HasClass, IsFurtherRecord, IsFurtherWord, IsRewriting, IsToken, Labels, List, MatchOption, Named, None, Parts, RawItem, SaysAnew, Some, Token, TokensSay, TouchingItem, Word, Written, [], and_last, anew, ap, append-nil, arith, by_mnemonic, class_among, ends_item, entry_of, escaped, false, false≢true, filter, find_mapped, flat_map, flat_map-append, found_each, further_names, further_type, further_types, generic_tokens, in_class, is_blank, item_of, length, length-append, list_all, map, mnemonic_among, most_items, nat_tests, not, not-true, option_map, option_or, owned, parts_after, parts_in, plain, refl, slice_get, statement_by, statement_of, stays, subst, sym, text, token_text, true, word, word_after, written, written_text, ℕ, ◌++◌, ◌<◌, ◌==◌, ◌∙◌, ◌∷◌, ◌≡◌, ◌≢◌}
+unfoldable use Rattle.type_data.specs.Table.{early_types, late_types, signed_types}
 use Rattle.std.specs.Prelude.{◌&&◌, nat_lt, IfSome, IsSome, option_and_then}
 use Rattle.std.proofs.lemmas.List.{length-map}
 use Rattle.zone_text.proofs.Common.{bare}
@@ -50,12 +51,24 @@ plain_each (c ∷ word) e =
     eqb-refl-of : (c : ℕ) → c ≡ 92 → (c == 92) ≡ true
     eqb-refl-of c is = rw is refl
 
+each_plain : list_all (λ (f : FurtherType). is_plain_word f.mnemonic) further_types ≡ true
+unfolding early_types late_types signed_types
+each_plain = refl
+
+each_without_digit : list_all (λ (f : FurtherType). not (begins_with_digit f.mnemonic)) further_types ≡ true
+unfolding early_types late_types signed_types
+each_without_digit = refl
+
+each_is_no_class : list_all (λ (f : FurtherType). not (is_class_word f.mnemonic)) further_types ≡ true
+unfolding early_types late_types signed_types
+each_is_no_class = refl
+
 module _ (further : FurtherType) (row : further_type further.number ≡ Some further) where
   abbrev is_row : FurtherType → Bool
   is_row f = further.number == f.number
 
   mnemonic_plain : is_plain_word further.mnemonic ≡ true
-  mnemonic_plain = found_each (λ (f : FurtherType). is_plain_word f.mnemonic) is_row further_types further refl row
+  mnemonic_plain = found_each (λ (f : FurtherType). is_plain_word f.mnemonic) is_row further_types further each_plain row
 
   mnemonic_token : IsToken (word further.mnemonic)
   mnemonic_token =
@@ -69,10 +82,10 @@ module _ (further : FurtherType) (row : further_type further.number ≡ Some fur
   no_word words = rw (no_digit, no_class) refl
     where
       no_digit : begins_with_digit further.mnemonic ≡ false
-      no_digit = not-true _ (found_each (λ (f : FurtherType). not (begins_with_digit f.mnemonic)) is_row further_types further refl row)
+      no_digit = not-true _ (found_each (λ (f : FurtherType). not (begins_with_digit f.mnemonic)) is_row further_types further each_without_digit row)
 
       no_class : is_class_word further.mnemonic ≡ false
-      no_class = not-true _ (found_each (λ (f : FurtherType). not (is_class_word f.mnemonic)) is_row further_types further refl row)
+      no_class = not-true _ (found_each (λ (f : FurtherType). not (is_class_word f.mnemonic)) is_row further_types further each_is_no_class row)
 
   mnemonic_row : mnemonic_among further_names further.number ≡ Some further.mnemonic
   mnemonic_row =

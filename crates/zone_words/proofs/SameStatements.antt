@@ -1,5 +1,6 @@
 -- An entry that is written anew says the same of what others inherit, and states no more anew.
-use Rattle.zone_words.proofs.Common.{AllByRecursion, Anew, BecomesUnder, Bool, Entry, FurtherType, IsFurtherRecord, IsGeneric, IsMnemonic, IsRefused, IsToken, Labels, List, None, Option, Parts, RawItem, Refused, SaysAnew, Some, Statement, Token, TokensSay, TouchingItem, Word, Written, [], ap, arith, blank, bytes_eq, bytes_eq-Decides, class_among, class_word, closing, codes, comment, directive, each_mnemonic, encode_lower, entry_of, escaped, false, false≢true, filter, flat_map, flat_map-append, folded_label, further_names, if◌then◌else◌, in_generic_form, is_blank, item_of, kept, length, length-append, line_feed, map, not, not-true, opening, option_and_then, origin_items, owned, parts_after, parts_in, plain, refl, renamed, slice_get, statement_by, statement_of, stays, subst, sym, take, text, token_text, touching_items, true, type_token, unowned, word_after, written, written_text, ℕ, ◌++◌, ◌+◌, ◌==◌, ◌∙◌, ◌∷◌, ◌≡◌}
+use Rattle.zone_words.proofs.Common.{AllByRecursion, Anew, BecomesUnder, Bool, Entry, FurtherType, IsFurtherRecord, IsGeneric, IsMnemonic, IsRefused, IsToken, Labels, List, None, Option, Parts, RawItem, Refused, SaysAnew, Some, Statement, Token, TokensSay, TouchingItem, Word, Written, [], ap, arith, blank, bytes_eq, bytes_eq-Decides, class_among, class_word, closing, codes, comment, directive, each_mnemonic, encode_lower, entry_of, escaped, false, false≢true, filter, flat_map, flat_map-append, folded_label, further_names, if◌then◌else◌, in_generic_form, is_blank, item_of, kept, length, length-append, line_feed, map, not, not-true, opening, option_and_then, origin_items, owned, parts_after, parts_in, plain, refl, renamed, slice_get, statement_by, statement_of, stays, subst, sym, take, text, token_text, touching_items, true, type_token, unowned, word_after, written, written_text, ℕ, ◌++◌, ◌+◌, ◌==◌, ◌∙◌, ◌∷◌, ◌≡◌, list_all, Named}
+use Rattle.type_data.proofs.Registered.{none_like_type}
 use Rattle.zone_text.proofs.Common.{bare, quoted}
 use Rattle.std.specs.Prelude.{decimal}
 use Rattle.zone_name.proofs.Texts.Bare.{plain_text}
@@ -134,7 +135,7 @@ items_after it back = flat_map item_of (behind it back)
 
 no_mnemonic : (number n : ℕ) (word : List ℕ) → word ≡ type_text number → IsMnemonic further_names word n → ⊥
 no_mnemonic number n word e is =
-    let other = not-true _ (each_mnemonic (λ _ m. not (bytes_eq (take 4 (folded_label m)) (codes "type"))) further_names refl n is.name is.row) in
+    let other = not-true _ (each_mnemonic (λ _ m. not (bytes_eq (take 4 (folded_label m)) (codes "type"))) further_names none_like_type n is.name is.row) in
     let front : take 4 (folded_label is.name) ≡ codes "type" = ap (take 4) (sym is.same ∙ ap folded_label (e ∙ (sym (plain_text (codes "TYPE" ++ decimal number))))) in
     false≢true (sym other ∙ (bytes_eq-Decides (take 4 (folded_label is.name)) (codes "type")).1 front)
 

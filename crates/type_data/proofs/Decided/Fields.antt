@@ -15,7 +15,7 @@ use Rattle.type_data.proofs.OfKinds.Joined.Decided.{joined_low, joined_or_not}
 use Rattle.type_data.proofs.OfKinds.Gateway.Decided.{nothing_decided}
 use Rattle.type_data.proofs.OfKinds.Strings.Decided.{perhaps_decided, string_decided, strings_decided}
 use Rattle.type_data.proofs.OfKinds.Value.Decided.{quoted_value_decided, value_decided}
-use Rattle.type_data.proofs.OfKinds.Word.Decided.{algorithm_or_not, certificate_type_or_not, type_decided}
+use Rattle.type_data.proofs.OfKinds.Word.Decided.{algorithm_or_not, certificate_type_or_not, notify_scheme_or_not, type_decided}
 use Rattle.type_data.proofs.OfKinds.Number.Decided.{in_octets_decided}
 use Rattle.type_data.proofs.OfKinds.Gateway.Decided.{up_to_decided}
 use Rattle.type_data.proofs.OfKinds.Eui.Decided.{eui_or_not}
@@ -40,7 +40,7 @@ use Rattle.type_data.specs.Kinds.Strings.{FailsString, StatesString}
 use Rattle.type_data.specs.Kinds.Value.{FailsQuotedValue, FailsValue, StatesQuotedValue, StatesValue}
 use Rattle.type_data.specs.declared.fault.WordsFault.TheVariants.{ItemsLeftOver, TooLong}
 use Rattle.type_data.specs.declared.field.BareKind.{BareKind}
-use Rattle.type_data.specs.declared.field.BareKind.TheVariants.{AddressType, Algorithm, CertificateType, Discovery, Eui48, Eui64, Hash, HostIdentityTag, Ipv4, Ipv6, Name, NoAddress, NodeId, PublicKey, RecordType, Salt, Tag, Time, U8, U16, U32}
+use Rattle.type_data.specs.declared.field.BareKind.TheVariants.{AddressType, Algorithm, CertificateType, Discovery, Eui48, Eui64, Hash, HostIdentityTag, Ipv4, Ipv6, Name, NoAddress, NodeId, NotifyScheme, PublicKey, RecordType, Salt, Tag, Time, U8, U16, U32}
 use Rattle.type_data.specs.declared.field.FieldKind.{FieldKind}
 use Rattle.type_data.specs.declared.field.FieldKind.TheVariants.{Bare, Base64, Each, Hex, Location, Nothing, OneString, Parameters, PerhapsOneString, PerhapsTypes, Prefixes, QuotedValue, Strings, Types, Value}
 
@@ -52,6 +52,7 @@ text_decided origin is U16 text low = in_octets_decided _ w16 (decimal_or_not te
 text_decided origin is U32 text low = in_octets_decided _ w32 (decimal_or_not text)
 text_decided origin is Algorithm text low = in_octets_decided _ w8 (algorithm_or_not text)
 text_decided origin is CertificateType text low = in_octets_decided _ w16 (certificate_type_or_not text)
+text_decided origin is NotifyScheme text low = in_octets_decided _ w8 (notify_scheme_or_not text)
 text_decided origin is RecordType text low = type_decided text
 text_decided origin is Time text low = time_decided text
 text_decided origin is Name text low = name_decided origin is text low

@@ -3,4 +3,5 @@ pub mod Digits
 pub mod Printed
 pub mod Decided
 pub mod Graphic
+pub mod NotGeneric
 pub mod ReadAgain

@@ -4,11 +4,11 @@ use Rattle.type_data.proofs.Common.{List, arith, codes, refl, subst, sym, w16, w
 use Rattle.type_data.proofs.Printed.Graphic.{IsGraphicText, graphic_tested}
 use Rattle.type_data.specs.PrintedData.{PrintsBare}
 use Rattle.type_data.specs.declared.field.BareKind.{BareKind}
-use Rattle.type_data.specs.declared.field.BareKind.TheVariants.{AddressType, Algorithm, CertificateType, Discovery, Eui48, Eui64, Hash, HostIdentityTag, Ipv4, Ipv6, Name, NoAddress, NodeId, PublicKey, RecordType, Salt, Tag, Time, U16, U32, U8}
+use Rattle.type_data.specs.declared.field.BareKind.TheVariants.{AddressType, Algorithm, CertificateType, Discovery, Eui48, Eui64, Hash, HostIdentityTag, Ipv4, Ipv6, Name, NoAddress, NodeId, NotifyScheme, PublicKey, RecordType, Salt, Tag, Time, U16, U32, U8}
 use Rattle.type_data.proofs.OfKinds.Number.Graphic.{number_graphic}
 use Rattle.type_data.proofs.OfKinds.Gateway.Graphic.{up_to_graphic}
 use Rattle.type_data.proofs.OfKinds.Time.Graphic.{time_graphic}
-use Rattle.type_data.proofs.OfKinds.Word.Graphic.{certificate_graphic, record_type_graphic}
+use Rattle.type_data.proofs.OfKinds.Word.Graphic.{certificate_graphic, notify_scheme_graphic, record_type_graphic}
 use Rattle.type_data.proofs.OfKinds.Tag.Graphic.{tag_graphic}
 use Rattle.type_data.proofs.OfKinds.Hexadecimal.Graphic.{lower_graphic}
 use Rattle.type_data.proofs.OfKinds.Salt.Graphic.{salt_value}
@@ -27,6 +27,7 @@ bare_text_graphic U16 text octets p = number_graphic w16 text octets (omega arit
 bare_text_graphic U32 text octets p = number_graphic w32 text octets (omega arith) p
 bare_text_graphic Algorithm text octets p = number_graphic w8 text octets (omega arith) p
 bare_text_graphic CertificateType text octets p = certificate_graphic text octets p
+bare_text_graphic NotifyScheme text octets p = notify_scheme_graphic text octets p
 bare_text_graphic RecordType text octets p = record_type_graphic text octets p
 bare_text_graphic Time text octets p = time_graphic text octets p
 bare_text_graphic Name text octets p = name_graphic text octets p

@@ -1,17 +1,18 @@
-//! Numbers in digits or by their mnemonics, and types by their words (RFC 4034 A.1, RFC 4398 2.1).
+//! Numbers in digits or by their mnemonics, and types by their words (RFC 4034 A.1, RFC 4398 2.1,
+//! RFC 9859 2.1).
 ghost use Rattle.std.specs.Prelude.{◌≡◌, ◌++◌, IfErr, IfNone, IfOk, IfSome, OnOk};
 ghost use Rattle.zone_name.specs.Common.{NothingIs};
 ghost use Rattle.zone_rdata.specs.Number.{IsCapped};
 ghost use Rattle.type_data.specs.Fault.{AppendsStated, IfFault};
-ghost use Rattle.type_data.specs.Kinds.Word.{FailsAlgorithm, FailsCertificateType, FailsType, PrintsAlgorithm, PrintsCertificateType, PrintsType, StatesAlgorithm, StatesCertificateType, StatesType, certificate_word, type_word};
+ghost use Rattle.type_data.specs.Kinds.Word.{FailsAlgorithm, FailsCertificateType, FailsNotifyScheme, FailsType, PrintsAlgorithm, PrintsCertificateType, PrintsNotifyScheme, PrintsType, StatesAlgorithm, StatesCertificateType, StatesNotifyScheme, StatesType, certificate_word, notify_scheme_word, type_word};
 ghost use Rattle.type_data.specs.Mnemonics.{IsAlgorithm};
 ghost use Rattle.type_data.specs.Printed.{IfNoData, NoFront, PrintsFront};
 
 use super::number::{print_decimal, push_one_octet, push_two_octets};
 use crate::fault::{WordsFailing, WordsFault};
 use crate::mnemonics::{
-    ALGORITHMS, CERTIFICATE_TYPES, FURTHER_ALGORITHMS, certificate_mnemonic, number_of_kind,
-    type_mnemonic, type_of_word,
+    ALGORITHMS, CERTIFICATE_TYPES, FURTHER_ALGORITHMS, NOTIFY_SCHEMES, certificate_mnemonic,
+    notify_scheme_mnemonic, number_of_kind, type_mnemonic, type_of_word,
 };
 use crate::taking::{take_u8, take_u16};
 use crate::unprinted::Unprinted;
@@ -58,6 +59,21 @@ pub(crate) fn read_certificate_type(text: &[u8], out: &mut Vec<u8>) -> Result<()
 {
     // No name stands before the digits.
     push_two_octets(number_of_word(CERTIFICATE_TYPES, b"", text), out)?;
+    Ok(())
+}
+
+/// Appends the scheme of DSYNC, in digits or by its mnemonic in any letter case (RFC 9859 2.1).
+///
+/// # Errors
+///
+/// `NotANumber` where it is neither, `TooLarge` and want of memory.
+pub(crate) fn read_notify_scheme(text: &[u8], out: &mut Vec<u8>) -> Result<(), WordsFailing>
+    ensures states { OnOk result
+        (AppendsStated (StatesNotifyScheme text.now) out.old.items out.new.items) }
+    ensures fault { IfErr result (IfFault (FailsNotifyScheme text.now)) }
+{
+    // No name stands before the digits.
+    push_one_octet(number_of_word(NOTIFY_SCHEMES, b"", text), out)?;
     Ok(())
 }
 
@@ -123,6 +139,36 @@ fn print_certificate_word(number: u16, out: &mut Vec<u8>) -> Result<(), AllocErr
     ensures { OnOk result (out.new.items ≡ out.old.items ++ certificate_word number) }
 {
     match certificate_mnemonic(number) {
+        Some(mnemonic) => out.extend_from_slice(mnemonic),
+        None => print_decimal(u32::from(number), out),
+    }
+}
+
+/// Appends the scheme of DSYNC at the front, by its mnemonic or else in decimal (RFC 9859 2.1), and
+/// gives what is left.
+///
+/// # Errors
+///
+/// `NoData` where no octet is there, and `OutOfMemory`.
+pub(crate) fn print_notify_scheme<'o>(
+    octets: &'o [u8],
+    out: &mut Vec<u8>,
+) -> Result<&'o [u8], Unprinted>
+    ensures printed { IfOk result (λ rest.
+        PrintsFront PrintsNotifyScheme StatesNotifyScheme octets.now rest.now out.old.items
+        out.new.items) }
+    ensures none { IfErr result (IfNoData (NoFront StatesNotifyScheme octets.now)) }
+{
+    let (number, rest) = take_u8(octets)?;
+    print_notify_scheme_word(number, out)?;
+    Ok(rest)
+}
+
+/// Appends the mnemonic of a scheme of DSYNC, or its number.
+fn print_notify_scheme_word(number: u8, out: &mut Vec<u8>) -> Result<(), AllocError>
+    ensures { OnOk result (out.new.items ≡ out.old.items ++ notify_scheme_word number) }
+{
+    match notify_scheme_mnemonic(number) {
         Some(mnemonic) => out.extend_from_slice(mnemonic),
         None => print_decimal(u32::from(number), out),
     }

@@ -21,7 +21,7 @@ ghost use Rattle.type_data.specs.Kinds.Tag.{PrintsTag, StatesTag};
 ghost use Rattle.type_data.specs.Kinds.Time.{PrintsTime, StatesTime};
 ghost use Rattle.type_data.specs.Kinds.Types.{PrintsPerhapsTypes, PrintsTypes, StatesPerhapsTypes, StatesTypes};
 ghost use Rattle.type_data.specs.Kinds.Value.{PrintsValue, StatesQuotedValue};
-ghost use Rattle.type_data.specs.Kinds.Word.{PrintsAlgorithm, PrintsCertificateType, PrintsType, StatesAlgorithm, StatesCertificateType, StatesType};
+ghost use Rattle.type_data.specs.Kinds.Word.{PrintsAlgorithm, PrintsCertificateType, PrintsNotifyScheme, PrintsType, StatesAlgorithm, StatesCertificateType, StatesNotifyScheme, StatesType};
 ghost use Rattle.type_data.specs.Parameters.Printed.{written_touching};
 ghost use Rattle.type_data.specs.Printed.{ArePrinted};
 ghost use Rattle.type_data.specs.PrintedData.{PrintParts};
@@ -37,6 +37,8 @@ pub fn printed_texts_state_their_octets()
         → StatesAlgorithm text octets }
     ensures certificate { (text octets : List ℕ) → PrintsCertificateType text octets
         → StatesCertificateType text octets }
+    ensures notify_scheme { (text octets : List ℕ) → PrintsNotifyScheme text octets
+        → StatesNotifyScheme text octets }
     ensures record_type { (text octets : List ℕ) → PrintsType text octets
         → StatesType text octets }
     ensures time { (text octets : List ℕ) → PrintsTime text octets → StatesTime text octets }

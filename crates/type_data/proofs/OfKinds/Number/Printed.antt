@@ -1,8 +1,8 @@
 -- Numbers and words that are printed state what they are printed for.
 use Rattle.zone_rdata.proofs.Items.GenericLaws.{decimal-is}
-use Rattle.type_data.proofs.Common.{IsDecimal, IsInOctets, IsNumbered, IsWordAmong, List, Width, [], arith, by_number, byte_len, certificate_types, codes, inl, mnemonic_among, refl, registered_types, subst, sym, w16, w32, w8, ℕ, ◌<◌, ◌^◌, ◌≤◌}
+use Rattle.type_data.proofs.Common.{IsDecimal, IsInOctets, IsNumbered, IsWordAmong, List, Width, [], arith, by_number, byte_len, certificate_types, codes, inl, mnemonic_among, notify_schemes, refl, registered_types, subst, sym, w16, w32, w8, ℕ, ◌<◌, ◌^◌, ◌≤◌}
 use Rattle.type_data.specs.Kinds.Number.{PrintsNumber, PrintsU8, PrintsU16, PrintsU32, StatesU8, StatesU16, StatesU32}
-use Rattle.type_data.specs.Kinds.Word.{PrintsAlgorithm, PrintsCertificateType, PrintsType, StatesAlgorithm, StatesCertificateType, StatesType}
+use Rattle.type_data.specs.Kinds.Word.{PrintsAlgorithm, PrintsCertificateType, PrintsNotifyScheme, PrintsType, StatesAlgorithm, StatesCertificateType, StatesNotifyScheme, StatesType}
 use Rattle.zone_rdata.proofs.Texts.PrintedWords.{numbered_printed, word_of}
 
 -- ---- numbers
@@ -41,6 +41,14 @@ pub certificate_printed_states : (text octets : List ℕ) → PrintsCertificateT
 certificate_printed_states text octets p = record {
   number = p.number;
   stated = subst (λ t. IsWordAmong certificate_types [] t p.number) (sym p.stated) (word_of certificate_types [] (mnemonic_among certificate_types p.number) p.number refl (short w16 p.number (omega arith) p.fits));
+  fits = p.fits;
+  value = p.value;
+}
+
+pub notify_scheme_printed_states : (text octets : List ℕ) → PrintsNotifyScheme text octets → StatesNotifyScheme text octets
+notify_scheme_printed_states text octets p = record {
+  number = p.number;
+  stated = subst (λ t. IsWordAmong notify_schemes [] t p.number) (sym p.stated) (word_of notify_schemes [] (mnemonic_among notify_schemes p.number) p.number refl (short w8 p.number (omega arith) p.fits));
   fits = p.fits;
   value = p.value;
 }

@@ -2,14 +2,18 @@
 use Rattle.zone_name.specs.Common.{EitherIs}
 use Rattle.zone_rdata.proofs.Choices.{Choice, Decided}
 use Rattle.zone_rdata.proofs.Words.OneWord.{mnemonic_or_not, word_or_not}
+use Rattle.zone_rdata.specs.Table.{ascends}
 use Rattle.zone_rdata.specs.Words.{is_meta}
-use Rattle.type_data.proofs.Common.{Bool, IsAlgorithm, IsKind, IsMnemonic, IsNumberOrMnemonic, IsTypeWord, IsWordAmong, List, [], algorithms, arith, cases_lt, certificate_types, codes, false, false≢true, further_algorithms, inl, inr, refl, registered_types, subst, sym, to_be_bytes, true, w16, ℕ, ◌<◌, ◌∙◌, ◌≡◌, ◌≤◌, ◌⊎◌}
+use Rattle.type_data.proofs.Common.{Bool, IsAlgorithm, IsKind, IsMnemonic, IsNumberOrMnemonic, IsTypeWord, IsWordAmong, List, [], algorithms, arith, cases_lt, certificate_types, codes, false, false≢true, further_algorithms, inl, inr, notify_schemes, refl, registered_types, subst, sym, to_be_bytes, true, w16, ℕ, ◌<◌, ◌∙◌, ◌≡◌, ◌≤◌, ◌⊎◌, early_types, late_types, signed_types}
 use Rattle.type_data.proofs.OfKinds.Word.Once.{word_of_type_once}
 use Rattle.type_data.specs.Kinds.Word.{FailsType, StatesType}
 use Rattle.type_data.specs.declared.fault.WordsFault.TheVariants.{NotAType}
 
 pub certificate_type_or_not : (word : List ℕ) → Choice (IsNumberOrMnemonic certificate_types word)
 certificate_type_or_not = word_or_not certificate_types [] refl
+
+pub notify_scheme_or_not : (word : List ℕ) → Choice (IsNumberOrMnemonic notify_schemes word)
+notify_scheme_or_not = word_or_not notify_schemes [] refl
 
 algorithm_by : (word : List ℕ) → Choice (IsNumberOrMnemonic algorithms word) → Choice (IsMnemonic further_algorithms word) → Choice (IsAlgorithm word)
 algorithm_by word (inl found) further = inl (found.0, inl found.1)
@@ -31,8 +35,12 @@ type_by : (word : List ℕ) (n : ℕ) → IsWordAmong registered_types (codes "T
 type_by word n named (inl kind) = inl (n, record { named = named; kind = kind })
 type_by word n named (inr none) = inr (λ m is. none (subst IsKind (word_of_type_once word m n is.named named) is.kind))
 
+ascend_all : ascends registered_types ≡ true
+unfolding early_types late_types signed_types
+ascend_all = refl
+
 pub type_or_not : (word : List ℕ) → Choice (IsTypeWord word)
-type_or_not word = elim (word_or_not registered_types (codes "TYPE") refl word) [
+type_or_not word = elim (word_or_not registered_types (codes "TYPE") ascend_all word) [
   | inr none ↦ inr (λ n is. none n is.named)
   | inl found ↦ type_by word found.0 found.1 (kind_or_not found.0)
 ]

@@ -1,5 +1,5 @@
 -- Numbers and types by their mnemonics that are printed aren't the mark of the generic form.
-use Rattle.type_data.proofs.Common.{Bool, IsDecimal, IsMnemonic, IsWordAmong, List, Named, [], ap, arith, by_mnemonic, by_number, bytes_eq, bytes_eq-Decides, certificate_types, codes, each_mnemonic, false≢true, folded_label, length, length-append, length-map, list_all, not, not-true, refl, registered_types, subst, sym, true, ℕ, ◌++◌, ◌∙◌, ◌∷◌, ◌≡◌, ◌≢◌, ◌≤◌}
+use Rattle.type_data.proofs.Common.{Bool, IsDecimal, IsMnemonic, IsWordAmong, List, Named, [], ap, arith, by_mnemonic, by_number, bytes_eq, bytes_eq-Decides, certificate_types, codes, each_mnemonic, false≢true, folded_label, length, length-append, length-map, list_all, not, not-true, refl, registered_types, subst, sym, true, ℕ, ◌++◌, ◌∙◌, ◌∷◌, ◌≡◌, ◌≢◌, ◌≤◌, early_types, late_types, signed_types}
 use Rattle.zone_name.specs.Name.{folded_octet}
 use Rattle.type_data.proofs.OfKinds.Number.Printed.{certificate_printed_states, type_printed_states}
 use Rattle.type_data.specs.PrintedData.{PrintsBare}
@@ -31,8 +31,11 @@ no_certificate octets printed =
     let states = certificate_printed_states marked octets printed in
     no_word certificate_types [] refl (omega arith) (omega arith) states.number states.stated
 
+all_unlike : list_all (λ (row : Named). is_unlike row.mnemonic) registered_types ≡ true
+unfolding is_unlike early_types late_types signed_types
+all_unlike = refl
+
 pub no_type : (octets : List ℕ) → PrintsBare RecordType marked octets → ⊥
-unfolding is_unlike
 no_type octets printed =
     let states = type_printed_states marked octets printed in
-    no_word registered_types (codes "TYPE") refl (omega arith) (omega arith) states.number states.stated.named
+    no_word registered_types (codes "TYPE") all_unlike (omega arith) (omega arith) states.number states.stated.named

@@ -1,12 +1,12 @@
 -- Words of types and of other numbers: each has one number at most.
-use Rattle.type_data.proofs.Common.{Bool, IfNone, IfSome, IsAlgorithm, IsCapped, IsDecimal, IsKind, IsMnemonic, IsNumberOrMnemonic, IsNumbered, IsTypeWord, IsWordAmong, List, Named, None, NothingIs, Option, Some, [], algorithms, ap, arith, by_mnemonic, by_number, bytes_eq, bytes_eq-Decides, certificate_types, codes, each_mnemonic, false, false≢true, folded_label, further_algorithms, inl, inr, is_number, list_all, mnemonic_once, nat_tests, not, not-true, numbered_once, own_numbers, refl, registered_types, subst, sym, true, unlike, word_once, ℕ, ◌++◌, ◌<◌, ◌∙◌, ◌∷◌, ◌≡◌}
+use Rattle.type_data.proofs.Common.{Bool, IfNone, IfSome, IsAlgorithm, IsCapped, IsDecimal, IsKind, IsMnemonic, IsNumberOrMnemonic, IsNumbered, IsTypeWord, IsWordAmong, List, Named, None, NothingIs, Option, Some, [], algorithms, ap, arith, by_mnemonic, by_number, bytes_eq, bytes_eq-Decides, certificate_types, codes, each_mnemonic, false, false≢true, folded_label, further_algorithms, inl, inr, is_number, list_all, mnemonic_once, nat_tests, not, not-true, notify_schemes, numbered_once, own_numbers, refl, registered_types, subst, sym, true, unlike, word_once, ℕ, ◌++◌, ◌<◌, ◌∙◌, ◌∷◌, ◌≡◌, early_types, late_types, signed_types}
 use Rattle.zone_name.specs.Spelling.{is_digit}
 
 abbrev IsWord : List ℕ → ℕ → Type 0
 IsWord word n = IsWordAmong registered_types (codes "TYPE") word n
 
 pub word_of_type_once : (word : List ℕ) (m n : ℕ) → IsWord word m → IsWord word n → m ≡ n
-unfolding is_number own_numbers unlike
+unfolding is_number own_numbers unlike early_types late_types signed_types
 word_of_type_once word = word_once registered_types (codes "TYPE") refl refl word
 
 -- a word is that of one type at most
@@ -72,6 +72,10 @@ number_or_mnemonic_once rows own letters word m n (by_number x) (by_number y) = 
 pub certificate_type_once : (word : List ℕ) (m n : ℕ) → IsNumberOrMnemonic certificate_types word m → IsNumberOrMnemonic certificate_types word n → m ≡ n
 unfolding is_number own_numbers letters_first begins_with_digit
 certificate_type_once = number_or_mnemonic_once certificate_types refl refl
+
+pub notify_scheme_once : (word : List ℕ) (m n : ℕ) → IsNumberOrMnemonic notify_schemes word m → IsNumberOrMnemonic notify_schemes word n → m ≡ n
+unfolding is_number own_numbers letters_first begins_with_digit
+notify_scheme_once = number_or_mnemonic_once notify_schemes refl refl
 
 -- ---- algorithms, of two tables
 

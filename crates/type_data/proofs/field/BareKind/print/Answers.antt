@@ -13,7 +13,7 @@ use Rattle.type_data.specs.Kinds.Number.{StatesU16, StatesU32, StatesU8}
 use Rattle.type_data.specs.Kinds.Salt.{StatesSalt}
 use Rattle.type_data.specs.Kinds.Tag.{StatesTag}
 use Rattle.type_data.specs.Kinds.Time.{StatesTime}
-use Rattle.type_data.specs.Kinds.Word.{StatesAlgorithm, StatesCertificateType, StatesType}
+use Rattle.type_data.specs.Kinds.Word.{StatesAlgorithm, StatesCertificateType, StatesNotifyScheme, StatesType}
 use Rattle.type_data.specs.declared.field.BareKind.TheVariants as kinds
 
 pub returns-in-U8-clause-printed : goal.returns-in-U8-clause-printed
@@ -45,6 +45,12 @@ returns-in-CertificateType-clause-printed c = rw c.in-CertificateType.is (IfOk-w
 
 pub returns-in-CertificateType-clause-none : goal.returns-in-CertificateType-clause-none
 returns-in-CertificateType-clause-none c = rw c.in-CertificateType.is (none_weaker c.print_certificate_type.result _ _ (λ h. no_front_of_more StatesCertificateType (StatesSomewhere kinds.CertificateType) c.args.octets.now (λ text part is. is.1) h) c.print_certificate_type.ensures.none)
+
+pub returns-in-NotifyScheme-clause-printed : goal.returns-in-NotifyScheme-clause-printed
+returns-in-NotifyScheme-clause-printed c = rw c.in-NotifyScheme.is (IfOk-weaker c.print_notify_scheme.result _ _ (λ rest h. front_of_more (PrintsBare kinds.NotifyScheme) StatesNotifyScheme (StatesSomewhere kinds.NotifyScheme) c.args.octets.now rest.now _ _ (λ text part is. is.1) h) c.print_notify_scheme.ensures.printed)
+
+pub returns-in-NotifyScheme-clause-none : goal.returns-in-NotifyScheme-clause-none
+returns-in-NotifyScheme-clause-none c = rw c.in-NotifyScheme.is (none_weaker c.print_notify_scheme.result _ _ (λ h. no_front_of_more StatesNotifyScheme (StatesSomewhere kinds.NotifyScheme) c.args.octets.now (λ text part is. is.1) h) c.print_notify_scheme.ensures.none)
 
 pub returns-in-RecordType-clause-printed : goal.returns-in-RecordType-clause-printed
 returns-in-RecordType-clause-printed c = rw c.in-RecordType.is (IfOk-weaker c.print_type.result _ _ (λ rest h. front_of_more (PrintsBare kinds.RecordType) StatesType (StatesSomewhere kinds.RecordType) c.args.octets.now rest.now _ _ (λ text part is. is.1) h) c.print_type.ensures.printed)

@@ -1,5 +1,5 @@
 use Rattle.type_data.proofs.OfKinds.Address.Printed.{ipv4_printed_states, ipv6_printed_states}
-use Rattle.type_data.proofs.OfKinds.Number.Printed.{algorithm_printed_states, certificate_printed_states, type_printed_states, u16_printed_states, u32_printed_states, u8_printed_states}
+use Rattle.type_data.proofs.OfKinds.Number.Printed.{algorithm_printed_states, certificate_printed_states, notify_scheme_printed_states, type_printed_states, u16_printed_states, u32_printed_states, u8_printed_states}
 use Rattle.type_data.proofs.OfKinds.Eui.ReadAgain.{eui_printed_states}
 use Rattle.type_data.proofs.OfKinds.NodeId.ReadAgain.{node_id_printed_states}
 use Rattle.type_data.proofs.OfKinds.Salt.ReadAgain.{salt_printed_states}
@@ -22,6 +22,9 @@ returns-clause-algorithm c = algorithm_printed_states
 
 pub returns-clause-certificate : goal.returns-clause-certificate
 returns-clause-certificate c = certificate_printed_states
+
+pub returns-clause-notify_scheme : goal.returns-clause-notify_scheme
+returns-clause-notify_scheme c = notify_scheme_printed_states
 
 pub returns-clause-record_type : goal.returns-clause-record_type
 returns-clause-record_type c = type_printed_states
