@@ -184,7 +184,7 @@ class Hostile(InFolder):
                 words = command("fetch", "-o", "sent", f"axfr://127.0.0.1:{server.port}/example")
                 it = subprocess.Popen(
                     words, stderr=subprocess.PIPE, env=environment(), text=True,
-                    preexec_fn=lambda: signal.signal(signal.SIGINT, signal.default_int_handler) and None)
+                    preexec_fn=lambda: signal.signal(number, signal.SIG_DFL) and None)
                 while not server.queries:
                     time.sleep(0.02)
                 time.sleep(0.2)

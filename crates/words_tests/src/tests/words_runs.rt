@@ -370,8 +370,8 @@ words => words
 words . => 2 error: unexpected argument '.' found
 generic words => 2 an origin is an absolute name
 normalise x. => 2 error: unrecognized subcommand 'normalise'
- => 2 Writes the records of further types in the generic form, or in words
---help => 2 Writes the records of further types in the generic form, or in words
+ => 2 Writes DNS records in the generic form, or in presentation format
+--help => 2 Writes DNS records in the generic form, or in presentation format
 --version => 2 zonewords 0.1.0
 ";
 
