@@ -160,6 +160,13 @@ impl FileExpander {
         }
     }
 
+    /// The expander has failed from here on.
+    pub(crate) fn fail(&mut self)
+        ensures { self.new.status ≡ Failed }
+    {
+        self.expansion.fail();
+    }
+
     /// How far the expansion of the file has come.
     pub fn status(&self) -> FileStatus
         ensures { result ≡ self.now.status }
