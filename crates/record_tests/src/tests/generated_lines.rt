@@ -338,7 +338,7 @@ fn lines_are_appended_by_the_part(rt: HostRuntime) -> Result<(), Fail> {
     };
     check_octets("the last owner", &owner, b"h5")?;
     let mut out = Vec::new(rt.alloc());
-    let state = generated.next_lines(15, &mut out)?;
+    let state = generated.next_lines(16, &mut out)?;
     check_same("more may come", state, LinesState::More)?;
     check_octets("two lines", &out, b"h1 A 192.0.2.1\nh3 A 192.0.2.3\n")?;
     let next = NextValue { value: 5, step: 2 };
