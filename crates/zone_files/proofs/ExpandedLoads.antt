@@ -10,9 +10,9 @@ use Rattle.zone_set.specs.Zone.{Zone}
 use Rattle.zone_engine.specs.Refusal.{IfRefused}
 use Rattle.zone_words.specs.Refusal.{refused_of}
 use Rattle.zone_files.specs.Expansion.{Holds, at_first}
-use Rattle.zone_files.specs.ExpandedLoader.{ExpandedState, FilesDenote, IsFaultlessTo, IsReportedOn, LoadsEnd, LoadsInnermost, RefusesFor, ReportsText, StandsForExpanded, judged, stopped}
+use Rattle.zone_files.specs.ExpandedLoader.{ExpandedState, FilesDenote, IsFaultlessTo, IsReportedOn, LoadsEnd, LoadsInnermost, RefusesFor, ReportsText, StandsForExpanded, fault_of, judged, stopped}
 use Rattle.zone_files.specs.FileExpander.{ExpanderState}
-use Rattle.zone_files.specs.IncludeStack.{BeginsInner, EndsInnermost, FedFiles, FeedsInnermost, StackState, StandsForFiles, fed_inner, fed_more, main_alone, main_file}
+use Rattle.zone_files.specs.IncludeStack.{BeginsInner, EndsInnermost, FedFiles, FeedsInnermost, MakesLines, StackState, StandsForFiles, WritesForFiles, fed_ended, fed_inner, fed_more, main_alone, main_file}
 use Rattle.zone_files.specs.Loading.Fed.{LoadingState, StandsForPresentation}
 use Rattle.zone_files.specs.Loading.Report.{IsReported}
 use Rattle.zone_files.specs.Machine.ExpandedLoading.{DenotesLoaded, RefusesFaulty, RefusesUnread, RefusesWhole}
@@ -22,7 +22,7 @@ use Rattle.zone_files.specs.declared.fault.ExpansionFault.{ExpansionFault}
 use Rattle.zone_files.specs.declared.loading.refusal.PresentationRefusal.{PresentationRefusal}
 use Rattle.zone_files.specs.declared.stack.expanded_loader.ExpandedRefusal.{ExpandedRefusal}
 use Rattle.zone_files.specs.declared.stack.expanded_loader.ExpandedRefusal.TheVariants.{Expansion, Unread, Text}
-use Rattle.zone_files.proofs.Stacks.{broken_text, ended_text, faulty_text}
+use Rattle.zone_files.proofs.Stacks.{broken_text, ended_text, faulty_text, lacking_text}
 
 -- what the loader goes on with
 abbrev pub LoadsText : LoadingState → List ℕ → LoadingState → Type 0
@@ -41,15 +41,21 @@ loads_part old new piece left text feeds loads = record {
   };
 }
 
-pub loads_end : (old new : ExpandedState) (text : List ℕ) → EndsInnermost old.stack new.stack [] text → LoadsText old.loader text new.loader → LoadsEnd old new
-loads_end old new text ends loads = record {
-  ended = ends.ended;
+loads_ended : (old new : ExpandedState) (text : List ℕ) (ended : ℕ) → WritesForFiles old.stack (fed_ended ended) new.stack [] text → LoadsText old.loader text new.loader → LoadsEnd old new
+loads_ended old new text ended writes loads = record {
+  ended = ended;
   stands = λ origin first fed st. record {
-    text = st.text ++ ends.writes.made;
-    expands = ends.writes.stands first fed st.text st.expands;
-    loads = subst (λ t. StandsForPresentation origin new.loader (st.text ++ t)) ends.writes.written (loads origin st.text st.loads);
+    text = st.text ++ writes.made;
+    expands = writes.stands first fed st.text st.expands;
+    loads = subst (λ t. StandsForPresentation origin new.loader (st.text ++ t)) writes.written (loads origin st.text st.loads);
   };
 }
+
+pub loads_end : (old new : ExpandedState) (text : List ℕ) → EndsInnermost old.stack new.stack [] text → LoadsText old.loader text new.loader → LoadsEnd old new
+loads_end old new text ends loads = loads_ended old new text ends.ended ends.writes loads
+
+pub loads_lines : (old new : ExpandedState) (text : List ℕ) → MakesLines old.stack new.stack [] text → LoadsText old.loader text new.loader → LoadsEnd old new
+loads_lines old new text makes loads = loads_ended old new text makes.ended makes.writes loads
 
 pub loads_inner : (old new : ExpandedState) → BeginsInner old.stack new.stack → new.loader ≡ old.loader → (origin : Labels) (first : Holds) (fed : FedFiles) → StandsForExpanded old origin first fed → StandsForExpanded new origin first (fed_inner fed)
 loads_inner old new begins same origin first fed st = record {
@@ -70,6 +76,9 @@ module _ (stack : StackState) (loader : LoadingState) (z : Zone) (denotes : Deno
   pub faulty_denotes : (fault : ExpansionFault) → stack.innermost.status ≡ statuses.Faulty fault → FilesDenote directory name origin (main_file fed).octets (main_file fed).files z
   faulty_denotes fault is = record { text = text; ending = _; expanded = faulty_text directory name origin stack fed text st fault is; denotes = denotes origin text loads }
 
+  pub lacking_denotes : (value : ℕ) → stack.innermost.status ≡ statuses.FaultyAt value → FilesDenote directory name origin (main_file fed).octets (main_file fed).files z
+  lacking_denotes value is = record { text = text; ending = _; expanded = lacking_text directory name origin stack fed text st value is; denotes = denotes origin text loads }
+
 -- ---- why it is refused
 
 abbrev IsJudged : StackState → List ℕ → List ℕ → Type 0
@@ -80,8 +89,8 @@ refuses_whole stack (Expansion other) origin text same refuses = absurd refuses
 refuses_whole stack Unread origin text same refuses = absurd refuses
 refuses_whole stack (Text refusal) origin text same refuses = subst (ReportsText refusal origin) (sym same) refuses
 
-pub refuses_faulty : (stack : StackState) (refusal : ExpandedRefusal) (fault : ExpansionFault) (origin : Labels) (text : List ℕ) → stack.innermost.status ≡ statuses.Faulty fault → judged stack text ≡ text → RefusesFaulty refusal fault (stack.next_line - 1) origin text → RefusesFor refusal stack origin text
-refuses_faulty stack (Expansion other) fault origin text is same refuses = (is ∙ ap statuses.Faulty (sym refuses.0), refuses.1)
+pub refuses_faulty : (stack : StackState) (refusal : ExpandedRefusal) (fault : ExpansionFault) (origin : Labels) (text : List ℕ) → fault_of stack.innermost.status ≡ Some fault → judged stack text ≡ text → RefusesFaulty refusal fault (stack.next_line - 1) origin text → RefusesFor refusal stack origin text
+refuses_faulty stack (Expansion other) fault origin text is same refuses = (is ∙ ap Some (sym refuses.0), refuses.1)
 refuses_faulty stack Unread fault origin text is same refuses = absurd refuses
 refuses_faulty stack (Text refusal) fault origin text is same refuses = subst (ReportsText refusal origin) (sym same) refuses
 

@@ -8,3 +8,4 @@ pub mod Progressing
 pub mod Own
 pub mod Including
 pub mod Stepping
+pub mod Generating

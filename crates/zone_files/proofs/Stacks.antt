@@ -6,10 +6,10 @@ use Rattle.std.proofs.lemmas.List.Sums.{sum_by-append}
 use Rattle.std.specs.List.{All}
 use Rattle.std.specs.Prelude.{IfSome, drop, option_to_list, reverse}
 use Rattle.zone_name.specs.Common.{Labels}
-use Rattle.zone_files.specs.Expansion.{Ending, Expands, Files, Holds, IsExpanded, at_first, breaks_off, ends, file, last_line, no_files, stops, within}
-use Rattle.zone_files.specs.FileExpander.{AfterInner, Awaits, ExpanderState, Feeds, IsOver, NamedFile, StandsBy, StandsFor, TakesIncluded, WritesFor, then}
-use Rattle.zone_files.specs.IncludeStack.{AllWait, BeginsInner, EndsInnermost, FedFile, FedFiles, FeedsInnermost, StackState, StandForFiles, StandsForFiles, WaitsFor, WritesForFiles, ended_by, fed_ended, fed_inner, fed_more, feeds_in, line_after_text, main_alone, main_by, main_file, stop_line, with_inner}
-use Rattle.zone_files.specs.Machine.Stacking.{GivesOn, StopsText, TakesPart}
+use Rattle.zone_files.specs.Expansion.{Ending, Expands, Files, Holds, IsExpanded, at_first, breaks_off, ends, file, last_line, no_files, stops, stops_at, within}
+use Rattle.zone_files.specs.FileExpander.{AfterInner, Awaits, ExpanderState, Feeds, HasFewerLines, IsOver, NamedFile, StandsBy, StandsFor, TakesIncluded, WritesFor, then}
+use Rattle.zone_files.specs.IncludeStack.{AllWait, BeginsInner, EndsInnermost, FedFile, FedFiles, FeedsInnermost, MakesLines, StackState, StandForFiles, StandsForFiles, WaitsFor, WritesForFiles, ended_by, fed_ended, fed_inner, fed_more, feeds_in, line_after_text, main_alone, main_by, main_file, stop_line, with_inner}
+use Rattle.zone_files.specs.Machine.Stacking.{EndsOutward, EndsSoFar, GivesOn, StopsText, TakesPart}
 use Rattle.zone_files.specs.Places.{counted}
 use Rattle.zone_files.specs.declared.expansion.progress.FileStatus.{FileStatus}
 use Rattle.zone_files.specs.declared.expansion.progress.FileStatus.TheVariants as statuses
@@ -114,28 +114,21 @@ one_more (suc n) inner (fed ∷ outer) = one_more n (with_inner fed inner) outer
 pub one_ended : (n : ℕ) (fed : FedFiles) → fed_ended 1 (fed_ended n fed) ≡ fed_ended (suc n) fed
 one_ended n fed = one_more n fed.innermost fed.outer
 
--- so many have ended so far
-pub record EndsSoFar (old cur : StackState) (before now : List ℕ) : Type 0 where
-  pub ended : ℕ
-  pub outer : length old.outer ≡ ended + length cur.outer
-  pub gives : GivesOn old (fed_ended ended) cur before now
-  pub over : IsOver cur.innermost.status ⊎ (1 ≤ ended)
-
-pub none_so_far : (old cur : StackState) (before now : List ℕ) → cur.outer ≡ old.outer → GivesOn old (λ fed. fed) cur before now → IsOver cur.innermost.status → EndsSoFar old cur before now
-none_so_far old cur before now outer gives over = record {
+pub none_so_far : (start old : StackState) (before now : List ℕ) → old.outer ≡ start.outer → GivesOn start (λ fed. fed) old before now → EndsSoFar start old old before now
+none_so_far start old before now outer gives = record {
   ended = 0;
   outer = ap length (sym outer) ∙ omega arith;
-  gives = gives_by old cur (λ fed. fed) (fed_ended 0) before now (λ fed. refl) gives;
-  over = inl over;
+  gives = gives_by start old (λ fed. fed) (fed_ended 0) before now (λ fed. refl) gives;
+  same = inl refl;
 }
 
-pub one_so_far : (old cur new : StackState) (x y z : List ℕ) → EndsSoFar old cur x y → length cur.outer ≡ 1 + length new.outer → GivesOn cur (fed_ended 1) new y z → EndsSoFar old new x z
-one_so_far old cur new x y z far outer gives = record {
+pub one_so_far : (start old cur new : StackState) (x y z : List ℕ) → EndsSoFar start old cur x y → length cur.outer ≡ 1 + length new.outer → GivesOn cur (fed_ended 1) new y z → EndsSoFar start old new x z
+one_so_far start old cur new x y z far outer gives = record {
   ended = suc far.ended;
   outer = omega (arith, far.outer, outer);
-  gives = gives_by old new (λ fed. fed_ended 1 (fed_ended far.ended fed)) (fed_ended (suc far.ended)) x z (one_ended far.ended)
-      (gives_both old cur new (fed_ended far.ended) (fed_ended 1) x y z far.gives gives);
-  over = inr (omega arith);
+  gives = gives_by start new (λ fed. fed_ended 1 (fed_ended far.ended fed)) (fed_ended (suc far.ended)) x z (one_ended far.ended)
+      (gives_both start cur new (fed_ended far.ended) (fed_ended 1) x y z far.gives gives);
+  same = inr (omega arith);
 }
 
 -- ---- the last line
@@ -195,26 +188,47 @@ takes_part old new octets left before after outer f line = record {
   gives = gives_part old new f.part before after outer f.writes line;
 }
 
-pub ends_innermost : (old cur new : StackState) (x y z : List ℕ) → stop_line old.innermost.status ≡ [] → EndsSoFar old cur x y → (cur.innermost.status ≡ statuses.Ended → cur.outer ≡ []) → StopsText cur new y z → EndsInnermost old new x z
-ends_innermost old cur new x y z none far main stopped = record {
+module _ (P : ExpanderState → Type 0) where
+  kept_so_far : (old cur : StackState) (ended : ℕ) → (cur.innermost ≡ old.innermost) ⊎ (1 ≤ ended) → P old.innermost → P cur.innermost ⊎ (1 ≤ ended)
+  kept_so_far old cur ended (inl same) p = inl (subst P (sym same) p)
+  kept_so_far old cur ended (inr some) p = inr some
+
+pub ends_innermost : (start old cur new : StackState) (x y z : List ℕ) → stop_line start.innermost.status ≡ [] → IsOver old.innermost.status → EndsSoFar start old cur x y → (cur.innermost.status ≡ statuses.Ended → cur.outer ≡ []) → StopsText cur new y z → EndsInnermost start new x z
+ends_innermost start old cur new x y z none over far main stopped = record {
   ended = far.ended;
   outer = far.outer ∙ ap (λ (states : List ExpanderState). far.ended + length states) (sym stopped.outer);
-  writes = with_last_line old cur new (fed_ended far.ended) x y z none far.gives stopped;
+  writes = with_last_line start cur new (fed_ended far.ended) x y z none far.gives stopped;
   main = λ is. stopped.outer ∙ main (ap (λ (s : ExpanderState). s.status) (sym stopped.innermost) ∙ is);
-  over = subst (λ (s : ExpanderState). IsOver s.status ⊎ (1 ≤ far.ended)) (sym stopped.innermost) far.over;
+  over = subst (λ (s : ExpanderState). IsOver s.status ⊎ (1 ≤ far.ended)) (sym stopped.innermost) (kept_so_far (λ s. IsOver s.status) old cur far.ended far.same over);
 }
 
 -- where a fault has ended the text, nothing ends
-pub ends_none : (s : StackState) (before : List ℕ) (fault : ExpansionFault) → s.innermost.status ≡ statuses.Faulty fault → EndsInnermost s s before before
-ends_none s before fault is = record {
+pub ends_none : (s : StackState) (before : List ℕ) → IsOver s.innermost.status → (s.innermost.status ≡ statuses.Ended → ⊥) → EndsInnermost s s before before
+ends_none s before over never = record {
   ended = 0;
   outer = omega arith;
   writes = writes_none s (fed_ended 0) before (λ fed. refl);
-  main = λ ended. let never : statuses.Faulty fault ≡ statuses.Ended = sym is ∙ ended in cc;
-  over = inl (
-    (λ going. let never : statuses.Faulty fault ≡ statuses.Going = sym is ∙ going in cc),
-    (λ broken. let never : statuses.Faulty fault ≡ statuses.Broken = sym is ∙ broken in cc),
-  );
+  main = λ ended. absurd (never ended);
+  over = inl over;
+}
+
+pub makes_lines : (start old cur new : StackState) (x y z : List ℕ) → stop_line start.innermost.status ≡ [] → HasFewerLines start.innermost old.innermost → EndsSoFar start old cur x y → (cur.innermost.status ≡ statuses.Ended → cur.outer ≡ []) → StopsText cur new y z → MakesLines start new x z
+makes_lines start old cur new x y z none fewer far main stopped = record {
+  ended = far.ended;
+  outer = far.outer ∙ ap (λ (states : List ExpanderState). far.ended + length states) (sym stopped.outer);
+  writes = with_last_line start cur new (fed_ended far.ended) x y z none far.gives stopped;
+  main = λ generating is. stopped.outer ∙ main (ap (λ (s : ExpanderState). s.status) (sym stopped.innermost) ∙ is);
+  fewer = λ generating. subst (λ (s : ExpanderState). HasFewerLines start.innermost s ⊎ (1 ≤ far.ended)) (sym stopped.innermost) (kept_so_far (HasFewerLines start.innermost) old cur far.ended far.same fewer);
+}
+
+-- where no lines come first, none are made
+pub makes_none : (s : StackState) (before : List ℕ) → (s.innermost.status ≡ statuses.Generating → ⊥) → MakesLines s s before before
+makes_none s before never = record {
+  ended = 0;
+  outer = omega arith;
+  writes = writes_none s (fed_ended 0) before (λ fed. refl);
+  main = λ generating. absurd (never generating);
+  fewer = λ generating. absurd (never generating);
 }
 
 -- ---- a file is opened
@@ -294,6 +308,10 @@ module _ (directory : Option (List ℕ)) (name : List ℕ) (origin : Labels) (s 
   pub faulty_text : (fault : ExpansionFault) → s.innermost.status ≡ statuses.Faulty fault → IsExpanded directory name origin (main_file fed).octets (main_file fed).files text (stops fault)
   faulty_text fault is = expanded_by (statuses.Faulty fault) (stops fault) is refl
       (main_ends (stops fault) (λ last start h octets files given x. x) (at_first directory name origin) st.stand.start s.outer fed.outer st.stand.earlier st.stand.own fed.innermost st.stand.outer (innermost_by (statuses.Faulty fault) is))
+
+  pub lacking_text : (value : ℕ) → s.innermost.status ≡ statuses.FaultyAt value → IsExpanded directory name origin (main_file fed).octets (main_file fed).files text (stops_at value)
+  lacking_text value is = expanded_by (statuses.FaultyAt value) (stops_at value) is refl
+      (main_ends (stops_at value) (λ last start h octets files given x. x) (at_first directory name origin) st.stand.start s.outer fed.outer st.stand.earlier st.stand.own fed.innermost st.stand.outer (innermost_by (statuses.FaultyAt value) is))
 
   alone : (outer : List FedFile) → AllWait (at_first directory name origin) st.stand.start [] outer st.stand.earlier → Expands st.stand.start fed.innermost.octets fed.innermost.files st.stand.own (ends s.innermost.holds)
       → Expands (at_first directory name origin) (main_by fed.innermost outer).octets (main_by fed.innermost outer).files (st.stand.earlier ++ st.stand.own) (ends s.innermost.holds)

@@ -1,6 +1,6 @@
 -- The zone of a master file and those that it includes (RFC 1035 5.1), which are fed in pieces: what
 -- a loader of it stands for, and why it is refused (this project's own).
-use Rattle.std.specs.Prelude.{◌≡◌, ℕ, ◌+◌, ◌-◌, List, [], ◌∷◌, ◌++◌, codes, Option, option_map}
+use Rattle.std.specs.Prelude.{◌≡◌, ℕ, ◌+◌, ◌-◌, List, [], ◌∷◌, ◌++◌, codes, Option, Some, None, option_map}
 use Rattle.zone_name.specs.Common.{Labels}
 use Rattle.zone_rdata.specs.declared.fault.Fault.{Fault}
 use Rattle.zone_rdata.specs.declared.fault.Place.TheVariants.{Line}
@@ -15,7 +15,9 @@ use Rattle.zone_files.specs.Loading.Fed.{LoadingState, StandsForPresentation}
 use Rattle.zone_files.specs.Loading.Report.{IsReported}
 use Rattle.zone_files.specs.Presentation.{PresentationDenotes}
 use Rattle.zone_files.specs.declared.expansion.progress.FileStatus.{FileStatus}
-use Rattle.zone_files.specs.declared.expansion.progress.FileStatus.TheVariants.{BrokenOff, Ended, Faulty}
+use Rattle.zone_files.specs.declared.expansion.progress.FileStatus.TheVariants.{BrokenOff, Ended, Faulty, FaultyAt}
+use Rattle.zone_files.specs.declared.fault.ExpansionFault.{ExpansionFault}
+use Rattle.zone_files.specs.declared.fault.ExpansionFault.TheVariants.{BadTemplate}
 use Rattle.zone_files.specs.declared.loading.refusal.PresentationRefusal.{PresentationRefusal}
 use Rattle.zone_files.specs.declared.stack.expanded_loader.ExpandedRefusal.{ExpandedRefusal}
 use Rattle.zone_files.specs.declared.stack.expanded_loader.ExpandedRefusal.TheVariants.{Expansion, Unread, Text}
@@ -42,7 +44,7 @@ pub record LoadsInnermost (old : ExpandedState) (octets left : List ℕ) (new : 
       → StandsForExpanded old origin first fed
       → StandsForExpanded new origin first (fed_more part fed)
 
--- the innermost file has ended, and those that end with it
+-- the innermost file has ended, and those that end with it, or none has
 pub record LoadsEnd (old new : ExpandedState) : Type 0 where
   pub ended : ℕ
   pub stands : (origin : Labels) (first : Holds) (fed : FedFiles)
@@ -67,6 +69,7 @@ abbrev pub judged_by : FileStatus → List ExpanderState → List ℕ → List �
 judged_by Ended [] text = text
 judged_by BrokenOff outer text = text
 judged_by (Faulty fault) outer text = text
+judged_by (FaultyAt value) outer text = text
 judged_by status outer text = text ++ stopped
 
 abbrev pub judged : StackState → List ℕ → List ℕ
@@ -89,10 +92,16 @@ pub data IsFaultlessTo (origin : Labels) (text : List ℕ) (line : ℕ) : Type 0
   refused_there : IsReportedOn origin text line → IsFaultlessTo origin text line
   accepted : (z : Zone) → PresentationDenotes origin text z → IsFaultlessTo origin text line
 
+-- the fault that has ended the text: of an entry, or of a value for which a `$GENERATE` has no line
+abbrev pub fault_of : FileStatus → Option ExpansionFault
+fault_of (Faulty fault) = Some fault
+fault_of (FaultyAt value) = Some BadTemplate
+fault_of status = None
+
 -- Why files are refused, of which this text was loaded: an entry that can't be expanded, or a file
 -- that wasn't read to its end, where no entry before has a fault; or what is reported of the text.
 abbrev pub RefusesFor : ExpandedRefusal → StackState → Labels → List ℕ → Type 0
 RefusesFor (Expansion fault) stack origin text =
-    (stack.innermost.status ≡ Faulty fault) × IsReportedOn origin text (stack.next_line - 1)
+    (fault_of stack.innermost.status ≡ Some fault) × IsReportedOn origin text (stack.next_line - 1)
 RefusesFor Unread stack origin text = IsFaultlessTo origin (judged stack text) stack.next_line
 RefusesFor (Text refusal) stack origin text = ReportsText refusal origin (judged stack text)

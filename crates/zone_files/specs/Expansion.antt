@@ -1,21 +1,26 @@
 -- The expanded text of a master file and those that it includes (RFC 1035 5.1), entry by entry. A
 -- file is its octets here: no file system is part of the definition. `$GENERATE`, which is BIND's,
--- isn't expanded: it stays, as every directive but `$INCLUDE` does.
-use Rattle.std.specs.Prelude.{◌≡◌, ℕ, zero, ◌+◌, ◌<◌, List, [], ◌∷◌, ◌++◌, bytes_eq, codes, drop, false, length, Option, Some, None}
+-- becomes its lines. Every other directive stays.
+use Rattle.std.specs.Prelude.{◌≡◌, ℕ, zero, ◌+◌, ◌<◌, List, [], ◌∷◌, ◌++◌, Bool, bytes_eq, codes, drop, false, length, true, Option, Some, None, Err, Ok}
 use Rattle.std.specs.List.{AllByRecursion, flat_map, list_any}
 use Rattle.std.specs.Option.{option_or}
 use Rattle.zone_name.specs.Common.{Labels, NothingIs}
+use Rattle.zone_name.specs.Name.{folded_label}
 use Rattle.zone_name.specs.Spelling.{SpellsCased}
 use Rattle.zone_name.specs.Text.{name_text}
 use Rattle.zone_rdata.specs.Spelling.{RawItem, bare, quoted}
 use Rattle.zone_rdata.specs.Strings.{item_text}
 use Rattle.zone_text.specs.Entries.{cut_from, entry_of, item_of}
 use Rattle.zone_text.specs.Breaks.{Breaks}
-use Rattle.zone_text.specs.Statements.{Statement, includes, owned, sets_origin, statement_of, unowned}
+use Rattle.zone_text.specs.Statements.{Statement, includes, owned, sets_origin, statement_of, unknown, unowned}
 use Rattle.zone_text.specs.Tokens.{Token, Cuts, line_feed, text}
 use Rattle.zone_rdata.specs.declared.fault.Fault.{Fault}
 use Rattle.zone_words.specs.Inherited.{IsOneOrNone}
 use Rattle.zone_words.specs.Origin.{NamesOrigin}
+use Rattle.zone_generate.specs.Entry.{Generation, generation_in}
+use Rattle.zone_generate.specs.Lines.{AreLines, last_owner}
+use Rattle.zone_generate.specs.declared.failing.GenerateFault.{GenerateFault}
+use Rattle.zone_generate.specs.declared.failing.GenerateFault.TheVariants as unmade
 use Rattle.zone_files.specs.FileName.{NamesFile}
 use Rattle.zone_files.specs.declared.fault.ExpansionFault.{ExpansionFault}
 use Rattle.zone_files.specs.declared.fault.ExpansionFault.TheVariants as faults
@@ -42,6 +47,11 @@ under None h = h
 abbrev pub owned_by : Option Labels → Holds → Holds
 owned_by named h = record h { owner = option_or named h.owner; stated = option_or named h.stated }
 
+-- After the lines of a `$GENERATE`: the text states the owner of the last one, where it is a name.
+-- The owner that holds in the file stays.
+abbrev pub after_lines : Option Labels → Holds → Holds
+after_lines named h = record h { stated = option_or named h.stated }
+
 -- for the first entry of a file that is included under an origin
 abbrev pub within : List ℕ → Labels → Holds → Holds
 within name origin h = record h {
@@ -56,12 +66,13 @@ back_in h inner = record h { stated = inner.stated; opened = inner.opened }
 
 -- ---- what becomes of an entry
 
--- the text in its place, and what holds after it; the file in its place, and its origin; or why
--- nothing follows
+-- the text in its place, and what holds after it; the file in its place, and its origin; why nothing
+-- follows; or the lines before the first value that has none, after which nothing follows
 pub data Outcome : Type 0 where
   stays : List ℕ → Holds → Outcome
   opens : List ℕ → Labels → Outcome
   fails : ExpansionFault → Outcome
+  lacks_line : List ℕ → ℕ → Outcome
 
 -- the name that an owner spells
 abbrev pub SpellsOwner : Labels → RawItem → Labels → Type 0
@@ -110,6 +121,41 @@ pub data Includes (h : Holds) (items : List RawItem) (outcome : Outcome) : Type 
       → NamesFile h.directory it.file name → MayOpen h name → outcome ≡ opens name it.origin
       → Includes h items outcome
 
+-- the fault of a `$GENERATE` before its first line
+abbrev pub generate_fault : GenerateFault → ExpansionFault
+generate_fault unmade.BadGenerate = faults.BadGenerate
+generate_fault unmade.BadRange = faults.BadRange
+generate_fault unmade.TooManyValues = faults.TooManyValues
+
+-- the name that the owner of the last line spells, if it has one
+abbrev pub SpellsLast : Labels → Option (List ℕ) → Labels → Type 0
+SpellsLast origin None name = ⊥
+SpellsLast origin (Some text) name = SpellsCased (Some origin) text name
+
+-- lines for all values, or those before the first value that has none
+abbrev pub as_lines : List ℕ → Holds → Option ℕ → Outcome
+as_lines lines next None = stays lines next
+as_lines lines next (Some value) = lacks_line lines value
+
+-- a `$GENERATE`, by the items after its word: its lines, value by value
+pub data Generates (h : Holds) (items : List RawItem) (outcome : Outcome) : Type 0 where
+  no_lines : (fault : GenerateFault) → generation_in items ≡ Err fault
+      → outcome ≡ fails (generate_fault fault) → Generates h items outcome
+  has_lines : (g : Generation) (lines : List ℕ) (fault : Option ℕ) (named : Option Labels)
+      → generation_in items ≡ Ok g → AreLines g.templates g.values lines fault
+      → IsOneOrNone (SpellsLast h.origin (last_owner g.templates g.values)) named
+      → outcome ≡ as_lines lines (after_lines named h) fault → Generates h items outcome
+
+-- whether the first of the items is the word `$GENERATE`, in any letter case
+abbrev pub says_generate : List RawItem → Bool
+says_generate (bare word ∷ items) = bytes_eq (folded_label word) (codes "$generate")
+says_generate items = false
+
+-- a directive that is neither RFC 1035's nor RFC 2308's
+abbrev pub DirectiveBecomes : Bool → Holds → List ℕ → List RawItem → Outcome → Type 0
+DirectiveBecomes true h entry items outcome = Generates h (drop 1 items) outcome
+DirectiveBecomes false h entry items outcome = outcome ≡ stays entry h
+
 -- by what the entry says; `entry` is its text
 abbrev pub StatementBecomes : Holds → List ℕ → List RawItem → Statement → Outcome → Type 0
 StatementBecomes h entry items (sets_origin names) outcome =
@@ -120,6 +166,8 @@ StatementBecomes h entry items (owned item rest) outcome =
     × (outcome ≡ stays entry (owned_by named h))
 StatementBecomes h entry items (unowned rest) outcome = WithOwner h entry outcome
 StatementBecomes h entry items includes outcome = Includes h (drop 1 items) outcome
+StatementBecomes h entry items unknown outcome =
+    DirectiveBecomes (says_generate items) h entry items outcome
 StatementBecomes h entry items form outcome = outcome ≡ stays entry h
 
 abbrev pub EntryBecomes : Holds → List Token → Outcome → Type 0
@@ -151,11 +199,13 @@ pub data Files : Type 0 where
   file : (octets : List ℕ) → (inner others : Files) → Files
 
 -- How a text ends: each entry was expanded, and this holds after the last; a text breaks; an entry
--- has a fault; or the file of this name isn't there. After all but the first nothing follows.
+-- has a fault; the templates of a `$GENERATE` say nothing for this value, which is the fault
+-- `BadTemplate`; or the file of this name isn't there. After all but the first nothing follows.
 pub data Ending : Type 0 where
   ends : Holds → Ending
   breaks_off : Ending
   stops : ExpansionFault → Ending
+  stops_at : ℕ → Ending
   wants : List ℕ → Ending
 
 -- `$ORIGIN` and a name, absolute, on a line
@@ -172,6 +222,8 @@ AfterEntry Rest Opens written ending (stays made next) =
     (more : List ℕ) × (written ≡ made ++ more) × Rest next more ending
 AfterEntry Rest Opens written ending (opens name origin) = Opens name origin
 AfterEntry Rest Opens written ending (fails fault) = (written ≡ []) × (ending ≡ stops fault)
+AfterEntry Rest Opens written ending (lacks_line lines value) =
+    (written ≡ lines) × (ending ≡ stops_at value)
 
 -- entry by entry
 abbrev pub EachExpands : (List ℕ → Labels → Expanding) → Expanding
@@ -230,6 +282,7 @@ at_first directory name origin = record {
 -- a fault ends the text with a line by which it denotes no zone
 abbrev pub last_line : Ending → List ℕ
 last_line (stops fault) = codes "$STOPPED" ++ 10 ∷ []
+last_line (stops_at value) = codes "$STOPPED" ++ 10 ∷ []
 last_line ending = []
 
 -- the expanded text of a main file, and how it ends
@@ -239,8 +292,14 @@ pub record IsExpanded (directory : Option (List ℕ)) (name : List ℕ) (origin 
   pub expands : Expands (at_first directory name origin) octets files written ending
   pub expanded_is : expanded ≡ written ++ last_line ending
 
--- no entry of the octets is an `$INCLUDE`
-abbrev pub HasNoInclude : List ℕ → Type 0
-HasNoInclude octets =
+-- an entry that isn't expanded: neither `$INCLUDE` nor `$GENERATE`
+abbrev pub IsPlain : List Token → Type 0
+IsPlain entry =
+    (statement_of (entry_of 1 entry) ≡ includes → ⊥)
+    × (statement_of (entry_of 1 entry) ≡ unknown → says_generate (flat_map item_of entry) ≡ false)
+
+-- each entry of the octets is one that isn't expanded
+abbrev pub HasPlainEntries : List ℕ → Type 0
+HasPlainEntries octets =
     (entries : List (List Token)) (tail : Option (List ℕ)) → IsFile octets entries tail
-    → AllByRecursion (λ (entry : List Token). statement_of (entry_of 1 entry) ≡ includes → ⊥) entries
+    → AllByRecursion IsPlain entries

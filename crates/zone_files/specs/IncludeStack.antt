@@ -2,11 +2,11 @@
 -- that are open stand for (RFC 1035 5.1). The reading in pieces is this project's own.
 use Rattle.std.specs.Prelude.{◌≡◌, ℕ, zero, suc, ◌+◌, ◌≤◌, ◌==◌, ◌⊎◌, List, [], ◌∷◌, ◌++◌, length, Option, Some, None, option_map}
 use Rattle.std.specs.List.{count_by}
-use Rattle.zone_files.specs.Expansion.{Files, Holds, file, last_line, no_files, stops, within}
-use Rattle.zone_files.specs.FileExpander.{ExpanderState, IsOver, NamedFile, StandsFor, then}
+use Rattle.zone_files.specs.Expansion.{Files, Holds, file, last_line, no_files, stops, stops_at, within}
+use Rattle.zone_files.specs.FileExpander.{ExpanderState, HasFewerLines, IsOver, NamedFile, StandsFor, then}
 use Rattle.zone_files.specs.Places.{counted}
 use Rattle.zone_files.specs.declared.expansion.progress.FileStatus.{FileStatus}
-use Rattle.zone_files.specs.declared.expansion.progress.FileStatus.TheVariants.{Ended, Faulty, Going, Including}
+use Rattle.zone_files.specs.declared.expansion.progress.FileStatus.TheVariants.{Ended, Faulty, FaultyAt, Generating, Going, Including}
 
 -- ---- what was fed
 
@@ -107,6 +107,7 @@ AllWait first start (s ∷ states) (fed ∷ others) text =
 -- the last line of a text that a fault ends
 abbrev pub stop_line : FileStatus → List ℕ
 stop_line (Faulty fault) = last_line (stops fault)
+stop_line (FaultyAt value) = last_line (stops_at value)
 stop_line status = []
 
 -- The expanders stand for the octets that were fed of each file, from what holds before the main
@@ -161,3 +162,13 @@ pub record EndsInnermost (old new : StackState) (before after : List ℕ) : Type
   pub writes : WritesForFiles old (fed_ended ended) new before after
   pub main : new.innermost.status ≡ Ended → new.outer ≡ []
   pub over : IsOver new.innermost.status ⊎ (1 ≤ ended)
+
+-- Some of the lines that come first were made. With the last of them the innermost file may have
+-- ended, and each file round it whose last entry included the one that ended.
+pub record MakesLines (old new : StackState) (before after : List ℕ) : Type 0 where
+  pub ended : ℕ
+  pub outer : length old.outer ≡ ended + length new.outer
+  pub writes : WritesForFiles old (fed_ended ended) new before after
+  pub main : old.innermost.status ≡ Generating → new.innermost.status ≡ Ended → new.outer ≡ []
+  pub fewer : old.innermost.status ≡ Generating
+      → HasFewerLines old.innermost new.innermost ⊎ (1 ≤ ended)

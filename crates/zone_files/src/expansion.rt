@@ -3,6 +3,7 @@
 mod file_expander;
 mod file_expansion;
 mod files_within;
+mod generating;
 mod holding;
 mod including;
 mod names;

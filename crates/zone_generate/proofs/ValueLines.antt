@@ -1,14 +1,15 @@
 -- The values of a range, and the lines for them.
-use Rattle.std.proofs.Common.{◌≡◌, ℕ, suc, ◌+◌, ◌-◌, ◌*◌, ◌<◌, ◌≤◌, ◌^◌, List, [], ◌∷◌, ◌++◌, refl, sym, ap, subst, arith, append_assoc, ◌∙◌, Option, Some, None, inl, inr, ◌⊎◌}
+use Rattle.std.proofs.Common.{◌≡◌, ℕ, zero, suc, ◌+◌, ◌-◌, ◌*◌, ◌<◌, ◌≤◌, ◌^◌, List, [], ◌∷◌, ◌++◌, length, refl, sym, ap, subst, arith, append_assoc, length-append, ◌∙◌, Option, Some, None, inl, inr, ◌⊎◌}
 use Rattle.std.proofs.Math.Nat.{mul-le-mul_right}
 use Rattle.std.proofs.lemmas.List.{append-nil}
 use Rattle.zone_generate.proofs.OneLines.{one_line_or_not}
-use Rattle.zone_generate.specs.Lines.{AreLines, IsLineFor, IsOneLine, SaysNothing, Templates, line_of}
+use Rattle.zone_generate.specs.Lines.{AreLines, IsLineFor, IsOneLine, SaysNothing, Templates, last_owner, line_of}
 use Rattle.zone_generate.specs.Range.{values_from}
+use Rattle.zone_generate.specs.Template.{expanded}
 use Rattle.zone_generate.specs.Entry.{Generation}
-use Rattle.zone_generate.specs.Steps.{IsAtFault, TakesValue}
+use Rattle.zone_generate.specs.Steps.{AreWithin, IsAtFault, TakesLines, TakesValue}
 use Rattle.zone_generate.specs.Values.{AreSmall}
-use Rattle.zone_generate.specs.Written.{IfBadTemplate}
+use Rattle.zone_generate.specs.Written.{Appends, IfBadTemplate}
 use Rattle.zone_generate.specs.declared.failing.LineFailing.{LineFailing}
 use Rattle.zone_generate.specs.declared.failing.LineFailing.TheVariants.{BadTemplate, OutOfMemory}
 use Rattle.zone_generate.specs.declared.range.Range.{Range}
@@ -43,6 +44,25 @@ pub small_next : (count step start : ℕ) → start + count * step < 2 ^ 31 + st
 small_next count step start last some =
     let less = one_less count step some in
     omega (arith, last, less)
+
+-- ---- the last value
+
+last_from : (t : Templates) (count step start : ℕ) → last_owner t (values_from (suc count) step start) ≡ expanded (start + count * step) t.owner
+unfolding values_from
+last_from t zero step start = ap (λ v. expanded v t.owner) (omega arith)
+last_from t (suc count) step start =
+    let more = mul_more count step in
+    let e : start + step + count * step ≡ start + suc count * step = omega (arith, more) in
+    last_from t count step (start + step) ∙ ap (λ v. expanded v t.owner) e
+
+pub last_said : (t : Templates) (count step start : ℕ) → 0 < count → last_owner t (values_from count step start) ≡ expanded (start + (count - 1) * step) t.owner
+last_said t count step start some =
+    let e : count ≡ suc (count - 1) = omega arith in
+    ap (λ k. last_owner t (values_from k step start)) e ∙ last_from t (count - 1) step start
+
+pub appended_last : (said : Option (List ℕ)) (old new : List ℕ) → old ≡ [] → Appends said old new → Some new ≡ said
+appended_last None old new none appends = absurd appends
+appended_last (Some text) old new none appends = ap Some (appends ∙ ap (λ t. t ++ text) none)
 
 -- ---- taking the first value
 
@@ -124,3 +144,46 @@ pub stopped : (g : Generation) (value : ℕ) → IsAtFault g value → AreLines 
 stopped g value is = subst (λ v. AreLines g.templates v [] (Some value)) (sym is.values) (inl (is.nothing, refl, refl))
 
 pub ruleset taken_lines = (taken, none_left, stopped)
+
+-- ---- several lines
+
+pub lines_joined : (t : Templates) (values others lines rest : List ℕ) (fault : Option ℕ) → AreLines t values lines None → AreLines t others rest fault → AreLines t (values ++ others) (lines ++ rest) fault
+lines_joined t [] others lines rest fault are more = subst (λ x. AreLines t others (x ++ rest) fault) (sym are.0) more
+lines_joined t (value ∷ values) others lines rest fault (inl nothing) more = absurd (let bad = nothing.2 in cc)
+lines_joined t (value ∷ values) others lines rest fault (inr are) more =
+    subst (λ x. AreLines t (value ∷ (values ++ others)) x fault)
+    (sym (append_assoc are.line are.rest rest) ∙ ap (λ x. x ++ rest) (sym are.joined))
+    (begin_with t value (values ++ others) are.line (are.rest ++ rest) fault are.first (lines_joined t values others are.rest rest fault are.others more))
+
+pub none_taken : (g : Generation) (before : List ℕ) → TakesLines g g before before
+none_taken g before = record { values = []; lines = []; are = (refl, refl); appended = sym (append-nil before); templates = refl; others = refl }
+
+pub one_taken : (a b c : Generation) (value : ℕ) (x y z : List ℕ) → TakesLines a b x y → TakesValue b value c y z → TakesLines a c x z
+one_taken a b c value x y z f g = record {
+  values = f.values ++ value ∷ [];
+  lines = f.lines ++ g.line;
+  are = lines_joined a.templates f.values (value ∷ []) f.lines g.line None f.are (one_value a.templates value g.line (subst (λ t. IsLineFor t value g.line) f.templates g.is));
+  appended = g.appended ∙ ap (λ t. t ++ g.line) f.appended ∙ append_assoc x f.lines g.line;
+  templates = g.templates ∙ f.templates;
+  others = f.others ∙ ap (λ t. f.values ++ t) g.values ∙ sym (append_assoc f.values (value ∷ []) c.values);
+}
+
+pub same_taken : (a b c : Generation) (x y z : List ℕ) → TakesLines a b x y → c ≡ b → z ≡ y → TakesLines a c x z
+same_taken a b c x y z f e w = subst (λ (g : Generation). TakesLines a g x z) (sym e) (subst (λ t. TakesLines a b x t) (sym w) f)
+
+pub taken_within : (a b c : Generation) (most value : ℕ) (x y z : List ℕ) → TakesLines a b x y → TakesValue b value c y z → length y - length x < most → AreWithin most a.templates x z
+taken_within a b c most value x y z f g few = inr (record {
+  value = value;
+  front = f.lines;
+  line = g.line;
+  is = subst (λ t. IsLineFor t value g.line) f.templates g.is;
+  appended = g.appended ∙ ap (λ t. t ++ g.line) f.appended ∙ append_assoc x f.lines g.line;
+  within = omega (arith, few, ap length f.appended, length-append x f.lines);
+})
+
+pub fewer_left : (old new : Generation) (before after : List ℕ) → TakesLines old new before after → length before < length after → length new.values < length old.values
+fewer_left old new before after f more = by f.values f.are f.others
+  where
+    by : (values : List ℕ) → AreLines old.templates values f.lines None → old.values ≡ values ++ new.values → length new.values < length old.values
+    by [] are is = absurd (omega (arith, ap length f.appended, length-append before f.lines, ap length are.0, more))
+    by (value ∷ values) are is = omega (arith, ap length is, length-append (value ∷ values) new.values)

@@ -49,3 +49,9 @@ AreLines t [] text fault = (text ≡ []) × (fault ≡ None)
 AreLines t (value ∷ values) text fault =
     (SaysNothing t value × (text ≡ []) × (fault ≡ Some value))
     ⊎ BeginWithLine t value (λ rest. AreLines t values rest fault) text
+
+-- what the template of the owner says for the last of the values
+abbrev pub last_owner : Templates → List ℕ → Option (List ℕ)
+last_owner t [] = None
+last_owner t (value ∷ []) = expanded value t.owner
+last_owner t (value ∷ next ∷ values) = last_owner t (next ∷ values)

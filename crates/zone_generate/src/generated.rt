@@ -1,13 +1,14 @@
 //! The lines of a `$GENERATE` entry, made one by one as they are asked for.
-ghost use Rattle.std.specs.Prelude.{◌≡◌, ◌<◌, ◌^◌, [], ◌∷◌, map, IfErr, IfNone, IfOk, IfSome, Ok, Err, OnErr, OnOk};
+ghost use Rattle.std.specs.Prelude.{◌≡◌, ◌<◌, ◌^◌, ℕ, suc, List, [], ◌∷◌, length, map, option_map, IfErr, IfNone, IfOk, IfSome, Ok, Err, OnErr, OnOk};
 ghost use Rattle.zone_rdata.specs.Item.{raw};
 ghost use Rattle.zone_generate.specs.Entry.{generation_in, generation_of};
 ghost use Rattle.zone_generate.specs.Lines as lines;
-ghost use Rattle.zone_generate.specs.Lines.{IsLineFor, SaysNothing};
+ghost use Rattle.zone_generate.specs.Lines.{IsLineFor, SaysNothing, last_owner};
 ghost use Rattle.zone_generate.specs.Machine.{templates_of};
-ghost use Rattle.zone_generate.specs.Range.{range_in, values_of};
+ghost use Rattle.zone_generate.specs.Range.{range_in, values_from, values_of};
 ghost use Rattle.zone_generate.specs.Values.{AreSmall};
-ghost use Rattle.zone_generate.specs.Steps.{IsAtFault, TakesValue};
+ghost use Rattle.zone_generate.specs.Steps.{AreWithin, IsAtFault, StopsFor, TakesLines, TakesValue};
+ghost use Rattle.zone_generate.specs.declared.generated.LinesState.TheVariants.{More};
 ghost use Rattle.zone_generate.specs.Written.{IfBadTemplate, IfGenerateFault};
 
 use crate::entry::{joined, parts_of, template_in};
@@ -15,9 +16,30 @@ use crate::failing::{GenerateFailing, GenerateFault, LineFailing, TemplateFailin
 use crate::lines::{Templates, push_line};
 use crate::one_line::is_one_line;
 use crate::range::{Range, RangeFault, range_in};
-use std::alloc::Global;
+use crate::template::expand;
+use std::alloc::{AllocError, Global};
 use std::marker::Model;
 use zone_rdata::Item;
+
+/// Why no more lines were appended.
+#[derive(Clone, Copy, Debug, PartialEq, Eq)]
+pub enum LinesState {
+    /// So many octets were appended. More lines may come.
+    More,
+    /// There are no more values.
+    AtEnd,
+    /// The templates say nothing for this value, or what they say is no line of one entry.
+    BadTemplate(u64),
+}
+
+/// The next value of a `$GENERATE`.
+#[derive(Clone, Copy, Debug, PartialEq, Eq)]
+pub struct NextValue {
+    /// The value.
+    pub value: u64,
+    /// By how much each value is more than the one before it.
+    pub step: u64,
+}
 
 /// The templates of a `$GENERATE` entry, and the values for which lines are still to come. Contracts
 /// see both. It keeps one line at a time, however many values there are.
@@ -164,5 +186,69 @@ impl Generated {
         out.extend_from_slice(&self.line)?;
         self.left = after_first(self.left);
         Ok(Some(value))
+    }
+
+    /// Appends the lines for the next values, up to the first line with which `most` octets or more
+    /// are appended: no more than `most` and one line.
+    ///
+    /// # Errors
+    ///
+    /// `AllocError`. `out` may have got some of the lines, for the values that aren't left.
+    pub fn next_lines(&mut self, most: usize, out: &mut Vec<u8>) -> Result<LinesState, AllocError>
+        requires some { 0 < most }
+        ensures taken { TakesLines self.old self.new out.old.items out.new.items }
+        ensures within { AreWithin most self.old.templates out.old.items out.new.items }
+        ensures fewer { IfOk result (λ state. state ≡ More
+            → length self.new.values < length self.old.values) }
+        ensures state { IfOk result (λ state. StopsFor state self.new) }
+    {
+        let begun = out.len();
+        'lines: while out.len() - begun < most {
+            match self.next_line(out) {
+                Ok(Some(_)) => {}
+                Ok(None) => return Ok(LinesState::AtEnd),
+                Err(LineFailing::BadTemplate(value)) => return Ok(LinesState::BadTemplate(value)),
+                Err(LineFailing::OutOfMemory) => return Err(AllocError),
+            }
+        }
+        Ok(LinesState::More)
+    }
+
+    /// The next value, and the step from each value to the one after it. `None`: there are no more
+    /// values.
+    pub fn next_value(&self) -> Option<NextValue>
+        ensures some { IfSome result (λ next.
+            (count : ℕ) × (self.now.values ≡ values_from (suc count) next.step next.value)) }
+        ensures none { IfNone result (self.now.values ≡ []) }
+    {
+        if self.left.count == 0 {
+            return None;
+        }
+        Some(NextValue {
+            value: self.left.start,
+            step: self.left.step,
+        })
+    }
+
+    /// The owner of the last line, as its template says it for the last value. `None`: it says nothing
+    /// for it, or there are no more values.
+    ///
+    /// # Errors
+    ///
+    /// `AllocError`.
+    pub fn last_owner(&self) -> Result<Option<Vec<u8>>, AllocError>
+        ensures { IfOk result (λ owner. option_map (λ text. text.items) owner
+            ≡ last_owner self.now.templates self.now.values) }
+    {
+        if self.left.count == 0 {
+            return Ok(None);
+        }
+        let last = self.left.start + (self.left.count - 1) * self.left.step;
+        let mut owner = Vec::new(self.alloc);
+        match expand(self.alloc, last, &self.owner, &mut owner) {
+            Ok(()) => Ok(Some(owner)),
+            Err(TemplateFailing::SaysNothing) => Ok(None),
+            Err(TemplateFailing::OutOfMemory) => Err(AllocError),
+        }
     }
 }

@@ -14,7 +14,7 @@ mod split;
 mod template;
 
 pub use failing::{GenerateFailing, GenerateFault, LineFailing, TemplateFailing};
-pub use generated::Generated;
+pub use generated::{Generated, LinesState, NextValue};
 pub use modifier::{Base, Modifier, modifier_in};
 pub use number::push_number;
 pub use range::{Range, RangeFault, range_in};

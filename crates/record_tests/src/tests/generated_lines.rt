@@ -8,8 +8,8 @@ use test_support::{
     Question, check_lines, check_octets, check_same, check_table, parted, push_text, push_words,
 };
 use zone_generate::{
-    GenerateFailing, GenerateFault, Generated, LineFailing, Range, RangeFault, TemplateFailing,
-    expand, modifier_in, push_number, range_in,
+    GenerateFailing, GenerateFault, Generated, LineFailing, LinesState, NextValue, Range,
+    RangeFault, TemplateFailing, expand, modifier_in, push_number, range_in,
 };
 use zone_rdata::Item;
 use zone_text::{FirstEntry, first_entry};
@@ -321,4 +321,34 @@ fn lines_are_appended(rt: HostRuntime) -> Result<(), Fail> {
         return Err(Fail::from("a line that is refused"));
     };
     check_octets("the same", &out, b"; \nh1 60 A 192.0.2.2147483647\n")
+}
+
+/// Lines are appended by the part, and before each the next value and the last owner are known.
+#[test]
+fn lines_are_appended_by_the_part(rt: HostRuntime) -> Result<(), Fail> {
+    let items = [
+        Item::Bare(b"1-6/2"),
+        Item::Bare(b"h$"),
+        Item::Bare(b"A"),
+        Item::Bare(b"192.0.2.$"),
+    ];
+    let mut generated = Generated::of_items(rt.alloc(), &items).map_err(|_| "an entry")?;
+    let Some(owner) = generated.last_owner()? else {
+        return Err(Fail::from("an owner"));
+    };
+    check_octets("the last owner", &owner, b"h5")?;
+    let mut out = Vec::new(rt.alloc());
+    let state = generated.next_lines(16, &mut out)?;
+    check_same("more may come", state, LinesState::More)?;
+    check_octets("two lines", &out, b"h1 A 192.0.2.1\nh3 A 192.0.2.3\n")?;
+    let next = NextValue { value: 5, step: 2 };
+    check_same("the next value", generated.next_value(), Some(next))?;
+    let state = generated.next_lines(1000, &mut out)?;
+    check_same("no more come", state, LinesState::AtEnd)?;
+    check_octets(
+        "all lines",
+        &out,
+        b"h1 A 192.0.2.1\nh3 A 192.0.2.3\nh5 A 192.0.2.5\n",
+    )?;
+    check_same("no value", generated.next_value(), None)
 }

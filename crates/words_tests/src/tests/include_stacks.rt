@@ -36,6 +36,8 @@ trait ReadsFiles {
 
     fn finish(&mut self) -> Result<(), Fail>;
 
+    fn generate(&mut self) -> Result<(), Fail>;
+
     fn begin_included(&mut self) -> Result<bool, Fail>;
 }
 
@@ -59,6 +61,10 @@ impl ReadsFiles for Expander {
         Ok(self.stack.finish(&mut self.out)?)
     }
 
+    fn generate(&mut self) -> Result<(), Fail> {
+        Ok(self.stack.generate(&mut self.out)?)
+    }
+
     fn begin_included(&mut self) -> Result<bool, Fail> {
         Ok(self.stack.begin_included()?)
     }
@@ -75,6 +81,10 @@ impl ReadsFiles for ExpandedLoader {
 
     fn finish(&mut self) -> Result<(), Fail> {
         Ok(ExpandedLoader::finish(self)?)
+    }
+
+    fn generate(&mut self) -> Result<(), Fail> {
+        Ok(ExpandedLoader::generate(self)?)
     }
 
     fn begin_included(&mut self) -> Result<bool, Fail> {
@@ -111,13 +121,12 @@ fn read_files<F: ReadsFiles>(
     let mut waiting: Vec<&'static [u8]> = Vec::new(alloc);
     let mut octets = text_of(asked, "main.zone").unwrap_or(b"");
     for _ in 0..MOST_STEPS {
+        while waiting.len() > files.stack().outer_files() {
+            octets = waiting.pop().unwrap_or(b"");
+        }
         match files.stack().status() {
-            FileStatus::Going | FileStatus::Broken => {
-                octets = feed_piece(files, octets, size)?;
-                while waiting.len() > files.stack().outer_files() {
-                    octets = waiting.pop().unwrap_or(b"");
-                }
-            }
+            FileStatus::Going | FileStatus::Broken => octets = feed_piece(files, octets, size)?,
+            FileStatus::Generating => files.generate()?,
             FileStatus::Including => {
                 let Some(text) = text_of(asked, files.stack().wanted().unwrap_or("")) else {
                     return Ok(());
@@ -143,11 +152,15 @@ fn expand(alloc: Global, asked: &'static str, size: usize) -> Result<Expander, F
     Ok(files)
 }
 
-/// Appends `FILE:LINE`.
+/// Appends `FILE:LINE`, and the value of a line of a `$GENERATE`.
 fn push_place(alloc: Global, out: &mut Vec<u8>, place: Option<EntryPlace<'_>>) -> Result<(), Fail> {
-    match place {
-        Some(place) => push_words(alloc, out, format_args!("{}:{}", place.name, place.line)),
-        None => push_text(out, "nowhere"),
+    let Some(place) = place else {
+        return push_text(out, "nowhere");
+    };
+    push_words(alloc, out, format_args!("{}:{}", place.name, place.line))?;
+    match place.value {
+        Some(value) => push_words(alloc, out, format_args!(" value {}", value)),
+        None => Ok(()),
     }
 }
 
@@ -175,6 +188,10 @@ impl Question for Lines {
                     out,
                     format_args!("F{} {} at ", fault.number(), fault.name()),
                 )?;
+                push_place(alloc, out, stack.last_place())
+            }
+            FileStatus::FaultyAt(_) => {
+                push_text(out, "lacking at ")?;
                 push_place(alloc, out, stack.last_place())
             }
             FileStatus::Including => {
@@ -272,7 +289,63 @@ $INCLUDE parts/keys
 main.zone:2 a A 192.0.2.1
 main.zone:3 
 main.zone:4 $ORIGIN B.example.
-main.zone:4: parts/keys";
+main.zone:4: parts/keys== $TTL 1h
+@     SOA  ns1 hostmaster 2026113001 2h 30m 2w 1h
+      NS   ns1
+ns1   A    192.0.2.1
+$GENERATE 10-12 host-${-9,2,d} A 192.0.2.$
+      TXT  \"of ns1\"
+$INCLUDE parts/web.db web
+      AAAA 2001:db8::1
+$GENERATE 171-172 ${0,5,n}.e A 192.0.2.$
+~~parts/web.db
+; the web servers
+@    A 192.0.2.80
+www  CNAME @
+$TTL 5m
+     ; done
+alias CNAME www=>main.zone:1 $TTL 1h
+main.zone:2 @     SOA  ns1 hostmaster 2026113001 2h 30m 2w 1h
+main.zone:3       NS   ns1
+main.zone:4 ns1   A    192.0.2.1
+main.zone:5 value 10 host-01 A 192.0.2.10
+main.zone:5 value 11 host-02 A 192.0.2.11
+main.zone:5 value 12 host-03 A 192.0.2.12
+main.zone:6 ns1.example.      TXT  \"of ns1\"
+main.zone:7 $ORIGIN web.example.
+parts/web.db:1 ; the web servers
+parts/web.db:2 @    A 192.0.2.80
+parts/web.db:3 www  CNAME @
+parts/web.db:4 $TTL 5m
+parts/web.db:5      ; done
+parts/web.db:6 alias CNAME www
+main.zone:7 $ORIGIN example.
+main.zone:8 ns1.example.      AAAA 2001:db8::1
+main.zone:9 value 171 b.a.0.e A 192.0.2.171
+main.zone:9 value 172 c.a.0.e A 192.0.2.172
+== $INCLUDE a
+b A 192.0.2.2
+~~a
+$GENERATE ( 4-8/2
+ ) a$ A 192.0.2.$ ; three
+; between
+$GENERATE 1-2 b$ A 192.0.2.$=>main.zone:1 $ORIGIN example.
+a:1 value 4 a4 A 192.0.2.4
+a:1 value 6 a6 A 192.0.2.6
+a:1 value 8 a8 A 192.0.2.8
+a:3 ; between
+a:4 value 1 b1 A 192.0.2.1
+a:4 value 2 b2 A 192.0.2.2
+main.zone:1 $ORIGIN example.
+main.zone:2 b A 192.0.2.2
+== $INCLUDE a
+~~a
+$GENERATE 2147483645-2147483647/2 a${1} A 192.0.2.1
+b A 192.0.2.2
+=>main.zone:1 $ORIGIN example.
+a:1 value 2147483645 a2147483646 A 192.0.2.1
+a:1 value 2147483647 $STOPPED
+lacking at a:1 value 2147483647";
 
 #[test]
 fn lines_of_files_with_those_that_they_include(rt: HostRuntime) -> Result<(), Fail> {
@@ -380,6 +453,34 @@ ns1.example. 300 IN AAAA 2001:db8::1
 web.example. 3600 IN A 192.0.2.80
 alias.web.example. 300 IN CNAME www.web.example.
 www.web.example. 3600 IN CNAME web.example.
+== $TTL 1h
+@     SOA  ns1 hostmaster 2026113001 2h 30m 2w 1h
+      NS   ns1
+ns1   A    192.0.2.1
+$GENERATE 10-12 host-${-9,2,d} A 192.0.2.$
+      TXT  \"of ns1\"
+$INCLUDE parts/web.db web
+      AAAA 2001:db8::1
+$GENERATE 171-172 ${0,5,n}.e A 192.0.2.$
+~~parts/web.db
+; the web servers
+@    A 192.0.2.80
+www  CNAME @
+$TTL 5m
+     ; done
+alias CNAME www=>example. 3600 IN SOA ns1.example. hostmaster.example. 2026113001 7200 1800 1209600 3600
+example. 3600 IN NS ns1.example.
+b.a.0.e.example. 300 IN A 192.0.2.171
+c.a.0.e.example. 300 IN A 192.0.2.172
+host-01.example. 3600 IN A 192.0.2.10
+host-02.example. 3600 IN A 192.0.2.11
+host-03.example. 3600 IN A 192.0.2.12
+ns1.example. 3600 IN A 192.0.2.1
+ns1.example. 3600 IN TXT \"of ns1\"
+ns1.example. 300 IN AAAA 2001:db8::1
+web.example. 3600 IN A 192.0.2.80
+alias.web.example. 300 IN CNAME www.web.example.
+www.web.example. 3600 IN CNAME web.example.
 == $INCLUDE main.zone
 =>F49 TooManyIncludes at main.zone:1: files include one another too deep or too often
 == @ 60 SOA n h 1 2 3 4 5
@@ -411,6 +512,15 @@ $INCLUDE a
 ~~a
 a A 192.0.2.1
 =>F9 BadRdata at main.zone:3: RRSIG, signature: not base64
+== @ 60 SOA n h 1 2 3 4 5
+$INCLUDE a
+~~a
+
+$GENERATE 1-2 h${1}-$ A 192.0.2.1
+=>F53 BadTemplate at a:2 value 1: the template says nothing for this value
+== @ 60 SOA n h 1 2 3 4 5
+$GENERATE 254-256 h$ A 192.0.2.$
+=>F9 BadRdata at main.zone:2 value 256: the data doesn't fit its type
 == @ 60 SOA n h 1 2 3 4 5
 $INCLUDE a
 ~~a

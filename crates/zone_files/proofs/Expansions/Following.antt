@@ -9,16 +9,20 @@ use Rattle.zone_text.specs.OpenEntry.{EndIs, EntryIs, HeldEntry, TakesFrom}
 use Rattle.zone_text.specs.Tokens.{Token, Cuts, line_feed}
 use Rattle.zone_text.specs.declared.open_entry.EntryState.TheVariants.{Broken, Ended}
 use Rattle.zone_text.specs.declared.open_entry.Taken.{Taken}
-use Rattle.zone_files.specs.Expansion.{Ending, Expands, Files, Holds, back_in, breaks_off, ends, file, no_files, origin_line, stops, within}
-use Rattle.zone_files.specs.FileExpander.{AfterInner, Continues, GoesOn, IsOver, NamedFile, StandsBy, StandsFor, TakesIncluded, then}
+use Rattle.zone_generate.proofs.ValueLines.{lines_joined, none_left, stopped}
+use Rattle.zone_generate.specs.Entry.{Generation}
+use Rattle.zone_generate.specs.Lines.{AreLines}
+use Rattle.zone_generate.specs.Steps.{TakesLines}
+use Rattle.zone_files.specs.Expansion.{Ending, Expands, Files, Holds, back_in, breaks_off, ends, file, no_files, origin_line, stops, stops_at, within}
+use Rattle.zone_files.specs.FileExpander.{AfterInner, AfterLines, Continues, GoesOn, HasFewerLines, IsOver, NamedFile, StandsBy, StandsFor, TakesIncluded, lines_left, then}
 use Rattle.zone_files.specs.Machine.Expanding.{EntersLast, EntersOctets, Follows, IsExpander, TakesFront, TakesInner, TakesInnerBy, state_of}
-use Rattle.zone_files.specs.Machine.Progressing.{Entered, Enters, end_of, has_failed, has_opened, was_written}
+use Rattle.zone_files.specs.Machine.Progressing.{Entered, Enters, GivesLines, end_of, gives_fault, gives_last, gives_some, has_begun, has_failed, has_none, has_opened, was_written}
 use Rattle.zone_files.specs.declared.fault.ExpansionFault.{ExpansionFault}
 use Rattle.zone_files.specs.declared.expansion.file_expansion.FileExpansion.{FileExpansion}
 use Rattle.zone_files.specs.declared.expansion.progress.FileStatus.{FileStatus}
 use Rattle.zone_files.specs.declared.expansion.progress.FileStatus.TheVariants as statuses
 use Rattle.zone_files.specs.declared.expansion.progress.Progress.{Progress}
-use Rattle.zone_files.proofs.Expansions.Steps.{continues_after, continues_broken, continues_entry, continues_failed, continues_more, file_breaks, file_last, file_none, leads_after, leads_ended, leads_failed, then_none}
+use Rattle.zone_files.proofs.Expansions.Steps.{continues_after, continues_broken, continues_entry, continues_failed, continues_lines, continues_more, file_breaks, file_last, file_none, leads_after, leads_ended, leads_failed, leads_lines, then_none}
 
 -- ---- what an expander stands for, by its status
 
@@ -37,6 +41,12 @@ AwaitsIn last h named start fed files given =
 
 awaits_by : (l m : Bool) (h k : Holds) (named : NamedFile) (start : Holds) (fed : List ℕ) (files : Files) (given : List ℕ) → m ≡ l → k ≡ h → AwaitsIn l h named start fed files given → AwaitsIn m k named start fed files given
 awaits_by l m h k named start fed files given e f w = subst (λ b. AwaitsIn b k named start fed files given) (sym e) (subst (λ g. AwaitsIn l g named start fed files given) (sym f) w)
+
+-- whatever the lines are
+lines_by : (l m : Bool) (start h : Holds) (fed : List ℕ) (files : Files) (given lines : List ℕ) (fault : Option ℕ) → m ≡ l → AfterLines l start h fed files (given ++ lines) fault → AfterLines m start h fed files ((given ++ []) ++ lines) fault
+lines_by l m start h fed files given lines fault e a =
+    subst (λ b. AfterLines b start h fed files ((given ++ []) ++ lines) fault) (sym e)
+    (subst (λ t. AfterLines l start h fed files (t ++ lines) fault) (sym (append-nil given)) a)
 
 module _ (old new : FileExpansion) (going : old.progress.status ≡ statuses.Going) where
   -- ---- an entry
@@ -57,6 +67,16 @@ module _ (old new : FileExpansion) (going : old.progress.status ≡ statuses.Goi
       inc,
       awaits_by false new.progress.last old.progress.holding new.progress.holding named start (fed ++ part) files (given ++ origin_line named.origin) last same
           (continues_after start old.progress.holding old.unfinished.octets part fed files given (from_status old statuses.Going start fed files given going s) tokens one named.name named.origin becomes),
+    );
+  }
+  entered_one part tokens before after none one (has_begun g becomes w st gen last) = record {
+    made = [];
+    written = w ∙ sym (append-nil before);
+    stands = λ start fed files given s. to_status new statuses.Generating start (fed ++ part) files (given ++ []) st (
+      g,
+      gen,
+      λ lines fault are. lines_by false new.progress.last start new.progress.holding (fed ++ part) files given lines fault last
+          (continues_lines start old.progress.holding old.unfinished.octets part fed files given (from_status old statuses.Going start fed files given going s) tokens one new.progress.holding lines fault (becomes lines fault are)),
     );
   }
   entered_one part tokens before after none one (has_failed fault becomes w st) = record {
@@ -89,6 +109,16 @@ module _ (old new : FileExpansion) (going : old.progress.status ≡ statuses.Goi
         inc,
         awaits_by true new.progress.last old.progress.holding new.progress.holding named start (fed ++ []) files (given ++ origin_line named.origin) last same
             (leads_after start old.progress.holding (fed ++ []) files given old.unfinished.octets (leads start fed files given (from_status old statuses.Going start fed files given going s)) (tokens ++ line_feed ∷ []) (file_last old.unfinished.octets tokens cut none some) named.name named.origin becomes),
+      );
+    }
+    entered_last before after (has_begun g becomes w st gen last) = record {
+      made = [];
+      written = w ∙ sym (append-nil before);
+      stands = λ start fed files given s. to_status new statuses.Generating start (fed ++ []) files (given ++ []) st (
+        g,
+        gen,
+        λ lines fault are. lines_by true new.progress.last start new.progress.holding (fed ++ []) files given lines fault last
+            (leads_lines start old.progress.holding (fed ++ []) files given old.unfinished.octets (leads start fed files given (from_status old statuses.Going start fed files given going s)) (tokens ++ line_feed ∷ []) (file_last old.unfinished.octets tokens cut none some) new.progress.holding lines fault (becomes lines fault are)),
       );
     }
     entered_last before after (has_failed fault becomes w st) = record {
@@ -264,6 +294,11 @@ module _ (old inner new : FileExpansion) (including : old.progress.status ≡ st
         (subst (λ t. Expands start fed all t (stops fault)) (sym (append-nil (given ++ inside)))
         (after_it (stops fault) (from_status inner (statuses.Faulty fault) (within named.name named.origin old.progress.holding) own below inside st i)))
 
+  faulty_at : (value : ℕ) → inner.progress.status ≡ statuses.FaultyAt value → new.progress.status ≡ statuses.FaultyAt value → (named : NamedFile) (start : Holds) (fed : List ℕ) (files : Files) (given own : List ℕ) (below : Files) (inside : List ℕ) → (state_of old).included ≡ Some named → StandsFor (state_of old) start fed files given → StandsFor (state_of inner) (within named.name named.origin old.progress.holding) own below inside → StandsFor (state_of new) start fed (then files (file own below no_files)) ((given ++ inside) ++ [])
+  faulty_at value st end named start fed files given own below inside inc s i = to_status new (statuses.FaultyAt value) start fed (then files (file own below no_files)) ((given ++ inside) ++ []) end
+      (subst (λ t. Expands start fed (then files (file own below no_files)) t (stops_at value)) (sym (append-nil (given ++ inside)))
+      (after_it named start fed files given own below inside inc s (stops_at value) (from_status inner (statuses.FaultyAt value) (within named.name named.origin old.progress.holding) own below inside st i)))
+
   included_by : (status : FileStatus) (before after : List ℕ) → inner.progress.status ≡ status → TakesInnerBy status old.progress inner.progress new.progress before after → TakesIncluded (state_of old) (state_of inner) (state_of new) before after
   included_by statuses.Ended before after st t = record {
     made = origin_line old.progress.holding.origin;
@@ -285,6 +320,16 @@ module _ (old inner new : FileExpansion) (including : old.progress.status ≡ st
     written = t.0 ∙ sym (append-nil before);
     stands = λ named start fed files given own below inside inc s i. faulty named start fed files given own below inside inc s fault st t.1 i;
   }
+  included_by (statuses.FaultyAt value) before after st t = record {
+    made = [];
+    written = t.0 ∙ sym (append-nil before);
+    stands = λ named start fed files given own below inside inc s i. faulty_at value st t.1 named start fed files given own below inside inc s i;
+  }
+  included_by statuses.Generating before after st t = record {
+    made = [];
+    written = t.0 ∙ sym (append-nil before);
+    stands = λ named start fed files given own below inside inc s i. to_status new statuses.Failed start fed (then files (file own below no_files)) ((given ++ inside) ++ []) t.1 tt;
+  }
   included_by statuses.Going before after st t = record {
     made = [];
     written = t.0 ∙ sym (append-nil before);
@@ -303,6 +348,72 @@ module _ (old inner new : FileExpansion) (including : old.progress.status ≡ st
 
   pub included_taken : (before after : List ℕ) → TakesInner old.progress inner.progress new.progress before after → TakesIncluded (state_of old) (state_of inner) (state_of new) before after
   included_taken before after t = included_by inner.progress.status before after refl t
+
+-- ---- lines that come first
+
+module _ (old new : FileExpansion) (generating : old.progress.status ≡ statuses.Generating) (none : new.unfinished.octets ≡ []) where
+  module _ (g left : Generation) (is : old.progress.generated ≡ Some g) (before after : List ℕ) (takes : TakesLines g left before after) (start : Holds) (fed : List ℕ) (files : Files) (given : List ℕ) (s : StandsFor (state_of old) start fed files given) where
+    -- whatever the lines after these are
+    after_them : (more : List ℕ) (fault : Option ℕ) → AreLines left.templates left.values more fault → AfterLines old.progress.last start old.progress.holding fed files (given ++ (takes.lines ++ more)) fault
+    after_them more fault are =
+        let w = from_status old statuses.Generating start fed files given generating s in
+        let same : g ≡ w.0 = cc (w.1, is) in
+        let all : AreLines g.templates (takes.values ++ left.values) (takes.lines ++ more) fault = lines_joined g.templates takes.values left.values takes.lines more fault takes.are (subst (λ t. AreLines t left.values more fault) takes.templates are) in
+        w.2 (takes.lines ++ more) fault
+        (subst (λ (t : Generation). AreLines t.templates t.values (takes.lines ++ more) fault) same
+        (subst (λ v. AreLines g.templates v (takes.lines ++ more) fault) (sym takes.others) all))
+
+    -- there are none after these
+    after_all : (fault : Option ℕ) → AreLines left.templates left.values [] fault → AfterLines old.progress.last start old.progress.holding (fed ++ []) files (given ++ takes.lines) fault
+    after_all fault are =
+        subst (λ t. AfterLines old.progress.last start old.progress.holding t files (given ++ takes.lines) fault) (sym (append-nil fed))
+        (subst (λ t. AfterLines old.progress.last start old.progress.holding fed files (given ++ t) fault) (append-nil takes.lines)
+        (after_them [] fault are))
+
+  pub lines_follow : (before after : List ℕ) → GivesLines old.progress new.progress before after → Follows old [] new before after
+  lines_follow before after (gives_some g left is takes gen few st same last) = record {
+    made = takes.lines;
+    written = takes.appended;
+    stands = λ start fed files given s. to_status new statuses.Generating start (fed ++ []) files (given ++ takes.lines) st (
+      left,
+      gen,
+      λ more fault are.
+          subst (λ t. AfterLines new.progress.last start new.progress.holding t files ((given ++ takes.lines) ++ more) fault) (sym (append-nil fed))
+          (subst (λ t. AfterLines new.progress.last start new.progress.holding fed files t fault) (sym (append_assoc given takes.lines more))
+          (subst (λ b. AfterLines b start new.progress.holding fed files (given ++ (takes.lines ++ more)) fault) (sym last)
+          (subst (λ h. AfterLines old.progress.last start h fed files (given ++ (takes.lines ++ more)) fault) (sym same)
+          (after_them g left is before after takes start fed files given s more fault are)))),
+    );
+  }
+  lines_follow before after (gives_last g left is takes empty st same) = record {
+    made = takes.lines;
+    written = takes.appended;
+    stands = λ start fed files given s. goes_on new old.progress.last start (fed ++ []) files (given ++ takes.lines) st none
+        (subst (λ h. GoesOn old.progress.last start h (fed ++ []) files (given ++ takes.lines)) (sym same)
+        (after_all g left is before after takes start fed files given s None (none_left left empty)));
+  }
+  lines_follow before after (gives_fault g left value is takes lacks st) = record {
+    made = takes.lines;
+    written = takes.appended;
+    stands = λ start fed files given s. to_status new (statuses.FaultyAt value) start (fed ++ []) files (given ++ takes.lines) st
+        (after_all g left is before after takes start fed files given s (Some value) (stopped left value lacks));
+  }
+  lines_follow before after (has_none is w st) = record {
+    made = [];
+    written = w ∙ sym (append-nil before);
+    stands = λ start fed files given s. to_status new statuses.Failed start (fed ++ []) files (given ++ []) st tt;
+  }
+
+not_generating : (last : Bool) → end_of last ≡ statuses.Generating → ⊥
+not_generating true e = absurd cc
+not_generating false e = absurd cc
+
+pub fewer_lines : (old new : FileExpansion) (before after : List ℕ) → GivesLines old.progress new.progress before after → HasFewerLines (state_of old) (state_of new)
+fewer_lines old new before after (gives_some g left is takes gen few st same last) e =
+    subst (λ o. lines_left o < lines_left old.progress.generated) (sym gen) (subst (λ o. length left.values < lines_left o) (sym is) few)
+fewer_lines old new before after (gives_last g left is takes empty st same) e = absurd (not_generating old.progress.last (sym st ∙ e))
+fewer_lines old new before after (gives_fault g left value is takes lacks st) e = absurd (let no_way : statuses.FaultyAt value ≡ statuses.Generating = sym st ∙ e in cc)
+fewer_lines old new before after (has_none is w st) e = absurd (let no_way : statuses.Failed ≡ statuses.Generating = sym st ∙ e in cc)
 
 -- ---- nothing yet
 
@@ -336,6 +447,7 @@ end_follows old new going fault is end some before after enters =
 over_by : (tokens : List Token) (old new : Progress) (before after : List ℕ) → Entered tokens true old new before after → IsOver new.status
 over_by tokens old new before after (was_written made becomes w st) = ((λ e. let no_way : statuses.Ended ≡ statuses.Going = sym st ∙ e in absurd cc), (λ e. let no_way : statuses.Ended ≡ statuses.Broken = sym st ∙ e in absurd cc))
 over_by tokens old new before after (has_opened named becomes w same st inc last) = ((λ e. let no_way : statuses.Including ≡ statuses.Going = sym st ∙ e in absurd cc), (λ e. let no_way : statuses.Including ≡ statuses.Broken = sym st ∙ e in absurd cc))
+over_by tokens old new before after (has_begun g becomes w st gen last) = ((λ e. let no_way : statuses.Generating ≡ statuses.Going = sym st ∙ e in absurd cc), (λ e. let no_way : statuses.Generating ≡ statuses.Broken = sym st ∙ e in absurd cc))
 over_by tokens old new before after (has_failed fault becomes w st) = ((λ e. let no_way : statuses.Faulty fault ≡ statuses.Going = sym st ∙ e in absurd cc), (λ e. let no_way : statuses.Faulty fault ≡ statuses.Broken = sym st ∙ e in absurd cc))
 
 pub end_over : (old new : FileExpansion) (fault : Option Fault) → fault ≡ None → EndIs old.unfinished.octets fault → (before after : List ℕ) → EntersLast old.unfinished.octets old.progress new.progress before after → IsOver new.progress.status

@@ -1,5 +1,5 @@
 -- Where some of very many items are left out, the same becomes of an entry.
-use Rattle.std.proofs.Common.{ℕ, ◌≤◌, List, [], ◌∷◌, ◌++◌, Option, Some, None, Bool, true, false, if◌then◌else◌, bytes_eq, codes, ◌==◌, length, sym, subst, arith, inl, inr}
+use Rattle.std.proofs.Common.{ℕ, ◌≤◌, List, [], ◌∷◌, ◌++◌, Option, Some, None, Bool, true, false, if◌then◌else◌, bytes_eq, codes, ◌==◌, length, length-append, Ok, Err, sym, ap, subst, ◌∙◌, ◌≡◌, arith, inl, inr}
 use Rattle.zone_name.specs.Common.{Labels, NothingIs}
 use Rattle.zone_name.specs.Name.{folded_label}
 use Rattle.zone_rdata.specs.Spelling.{RawItem, bare, quoted}
@@ -8,7 +8,11 @@ use Rattle.zone_text.specs.Statements.{Statement, directive, statement_by}
 use Rattle.zone_text.specs.Tokens.{is_blank}
 use Rattle.zone_words.specs.Inherited.{IsOneOrNone}
 use Rattle.zone_words.specs.Origin.{NamesOrigin}
-use Rattle.zone_files.specs.Expansion.{Holds, Includes, Outcome, StatementBecomes, StatesInclude, bad_include, bad_name, is_opened, too_many}
+use Rattle.zone_generate.proofs.EntryItems.{many_items}
+use Rattle.zone_generate.specs.Entry.{Generation, generation_in}
+use Rattle.zone_generate.specs.declared.failing.GenerateFault.{GenerateFault}
+use Rattle.zone_generate.specs.declared.failing.GenerateFault.TheVariants.{BadGenerate}
+use Rattle.zone_files.specs.Expansion.{DirectiveBecomes, Generates, Holds, Includes, Outcome, StatementBecomes, StatesInclude, bad_include, bad_name, fails, generate_fault, has_lines, is_opened, no_lines, says_generate, too_many}
 
 module _ (h : Holds) (entry : List ℕ) (outcome : Outcome) where
   if_both : (Alike : Statement → Statement → Type 0) (test : Bool) (a b c d : Statement) → Alike a c → Alike b d → Alike (if test then a else b) (if test then c else d)
@@ -31,16 +35,33 @@ module _ (h : Holds) (entry : List ℕ) (outcome : Outcome) where
   include_alike a b c x y (too_many it name s n m e) = absurd (three_items h.origin a b c x it s)
   include_alike a b c x y (is_opened it name s n m e) = absurd (three_items h.origin a b c x it s)
 
-  module _ (a b c d : RawItem) (x y : List RawItem) where
+  generates_alike : (x y : List RawItem) → 7 ≤ length x → 7 ≤ length y → Generates h x outcome → Generates h y outcome
+  generates_alike x y many more (no_lines fault e p) =
+      let one : fault ≡ BadGenerate = cc (e, many_items x many) in
+      no_lines BadGenerate (many_items y more) (p ∙ ap (λ f. fails (generate_fault f)) one)
+  generates_alike x y many more (has_lines g lines fault named e are is p) = absurd (let no : Ok g ≡ Err BadGenerate = sym e ∙ many_items x many in cc)
+
+  unknown_alike : (test : Bool) (a : RawItem) (x y : List RawItem) → 7 ≤ length x → 7 ≤ length y → DirectiveBecomes test h entry (a ∷ x) outcome → DirectiveBecomes test h entry (a ∷ y) outcome
+  unknown_alike true a x y many more p = generates_alike x y many more p
+  unknown_alike false a x y many more p = p
+
+  word_alike : (a : RawItem) (x y : List RawItem) → 7 ≤ length x → 7 ≤ length y → DirectiveBecomes (says_generate (a ∷ x)) h entry (a ∷ x) outcome → DirectiveBecomes (says_generate (a ∷ y)) h entry (a ∷ y) outcome
+  word_alike (bare word) x y many more p = unknown_alike (bytes_eq (folded_label word) (codes "$generate")) (bare word) x y many more p
+  word_alike (quoted text) x y many more p = p
+
+  module _ (a b c d : RawItem) (x y : List RawItem) (many : 4 ≤ length x) (more : 4 ≤ length y) where
+    other_alike : DirectiveBecomes (says_generate (a ∷ b ∷ c ∷ d ∷ x)) h entry (a ∷ b ∷ c ∷ d ∷ x) outcome → DirectiveBecomes (says_generate (a ∷ b ∷ c ∷ d ∷ y)) h entry (a ∷ b ∷ c ∷ d ∷ y) outcome
+    other_alike p = word_alike a (b ∷ c ∷ d ∷ x) (b ∷ c ∷ d ∷ y) (omega (arith, many)) (omega (arith, more)) p
+
     abbrev pub Alike : Statement → Statement → Type 0
     Alike s t = StatementBecomes h entry (a ∷ b ∷ c ∷ d ∷ x) s outcome → StatementBecomes h entry (a ∷ b ∷ c ∷ d ∷ y) t outcome
 
     directive_alike : (word : RawItem) → Alike (directive word (b ∷ c ∷ d ∷ x)) (directive word (b ∷ c ∷ d ∷ y))
-    directive_alike (quoted text) = λ p. p
+    directive_alike (quoted text) = other_alike
     directive_alike (bare text) =
         if_both Alike (bytes_eq (folded_label text) (codes "$origin")) _ _ _ _ (λ p. (p.0, origin_alike h.origin b c (d ∷ x) (d ∷ y) p.0 p.1, p.2))
         (if_both Alike (bytes_eq (folded_label text) (codes "$ttl")) _ _ _ _ (λ p. p)
-        (if_both Alike (bytes_eq (folded_label text) (codes "$include")) _ _ _ _ (include_alike b c d x y) (λ p. p)))
+        (if_both Alike (bytes_eq (folded_label text) (codes "$include")) _ _ _ _ (include_alike b c d x y) other_alike))
 
     statement_alike : (first : Option ℕ) → Alike (statement_by first (a ∷ b ∷ c ∷ d ∷ x)) (statement_by first (a ∷ b ∷ c ∷ d ∷ y))
     statement_alike None = λ p. p
@@ -48,12 +69,12 @@ module _ (h : Holds) (entry : List ℕ) (outcome : Outcome) where
         if_both Alike (o == 36) _ _ _ _ (directive_alike a)
         (if_both Alike (is_blank o) _ _ _ _ (λ p. p) (λ p. p))
 
-  shortened_becomes : (first : Option ℕ) (front more others : List RawItem) → 4 ≤ length front → StatementBecomes h entry (front ++ others) (statement_by first (front ++ others)) outcome → StatementBecomes h entry (front ++ more) (statement_by first (front ++ more)) outcome
+  shortened_becomes : (first : Option ℕ) (front more others : List RawItem) → 8 ≤ length front → StatementBecomes h entry (front ++ others) (statement_by first (front ++ others)) outcome → StatementBecomes h entry (front ++ more) (statement_by first (front ++ more)) outcome
   shortened_becomes first [] more others long p = absurd (omega (arith, long))
   shortened_becomes first (a ∷ []) more others long p = absurd (omega (arith, long))
   shortened_becomes first (a ∷ b ∷ []) more others long p = absurd (omega (arith, long))
   shortened_becomes first (a ∷ b ∷ c ∷ []) more others long p = absurd (omega (arith, long))
-  shortened_becomes first (a ∷ b ∷ c ∷ d ∷ front) more others long p = statement_alike a b c d (front ++ others) (front ++ more) first p
+  shortened_becomes first (a ∷ b ∷ c ∷ d ∷ front) more others long p = statement_alike a b c d (front ++ others) (front ++ more) (omega (arith, long, length-append front others)) (omega (arith, long, length-append front more)) first p
 
   pub kept_becomes : (first : Option ℕ) (all kept : List RawItem) → AreKept all kept → StatementBecomes h entry kept (statement_by first kept) outcome → StatementBecomes h entry all (statement_by first all) outcome
   kept_becomes first all kept (inl same) p = subst (λ items. StatementBecomes h entry items (statement_by first items) outcome) same p

@@ -1,5 +1,5 @@
 -- There is one expanded text.
-use Rattle.std.proofs.Common.{◌≡◌, ℕ, zero, List, [], ◌∷◌, ◌++◌, Option, Some, None, refl, sym, ap, subst, ◌∙◌}
+use Rattle.std.proofs.Common.{◌≡◌, ℕ, zero, List, [], ◌∷◌, ◌++◌, Bool, true, false, Option, Some, None, Err, Ok, refl, sym, ap, subst, ◌∙◌}
 use Rattle.std.specs.List.{flat_map}
 use Rattle.std.specs.Prelude.{drop}
 use Rattle.zone_name.proofs.Spelling.Answered.{SpellsCased-once}
@@ -13,7 +13,11 @@ use Rattle.zone_text.specs.Statements.{Statement, includes, no_items, owned, set
 use Rattle.zone_text.specs.Tokens.{Token, text}
 use Rattle.zone_words.specs.Inherited.{IsOneOrNone}
 use Rattle.zone_words.specs.Origin.{NamesOrigin}
-use Rattle.zone_files.specs.Expansion.{AfterEntry, AfterIncluded, EachExpands, Ending, EntryBecomes, Expanding, Expands, Files, Holds, Included, Includes, Inside, IsExpanded, IsFile, MayOpen, Opening, Outcome, SpellsOwner, StatementBecomes, StatesInclude, WithOwner, another, at_first, back_in, bad_include, bad_name, breaks_off, broken, each_with_line_feed, ends, fails, file, is_opened, last_line, no_files, none, opens, origin_line, owned_by, same, stays, stops, too_many, under, wants, whole, within}
+use Rattle.zone_generate.proofs.ValueLines.{one_text}
+use Rattle.zone_generate.specs.Entry.{Generation, generation_in}
+use Rattle.zone_generate.specs.Lines.{AreLines, last_owner}
+use Rattle.zone_generate.specs.declared.failing.GenerateFault.{GenerateFault}
+use Rattle.zone_files.specs.Expansion.{AfterEntry, AfterIncluded, DirectiveBecomes, EachExpands, Ending, EntryBecomes, Expanding, Expands, Files, Generates, Holds, Included, Includes, Inside, IsExpanded, IsFile, MayOpen, Opening, Outcome, SpellsLast, SpellsOwner, StatementBecomes, StatesInclude, WithOwner, after_lines, another, as_lines, at_first, back_in, bad_include, bad_name, breaks_off, broken, each_with_line_feed, ends, fails, file, generate_fault, has_lines, is_opened, lacks_line, last_line, no_files, no_lines, none, opens, origin_line, owned_by, same, says_generate, stays, stops, stops_at, too_many, under, wants, whole, within}
 use Rattle.zone_files.specs.Machine.Stepping.{included}
 use Rattle.zone_files.specs.FileName.{IsPath, NamesFile, absolute, relative}
 
@@ -54,6 +58,28 @@ with_owner_once h entry a b (another owner is other p) (none owner' is' other' q
 with_owner_once h entry a b (none owner is other p) (same e q) = absurd (let no : None ≡ Some owner = sym is ∙ e ∙ other in cc)
 with_owner_once h entry a b (none owner is other p) (another owner' is' other' q) = absurd (let no : None ≡ Some owner' = sym is ∙ is' in cc)
 with_owner_once h entry a b (none owner is other p) (none owner' is' other' q) = p ∙ sym q
+
+-- ---- a `$GENERATE`
+
+last_once : (origin : Labels) (owner : Option (List ℕ)) → AtMostOneIs (SpellsLast origin owner)
+last_once origin None a b p q = absurd p
+last_once origin (Some text) a b p q = SpellsCased-once (Some origin) text a b p q
+
+generates_once : (h : Holds) (items : List RawItem) → AtMostOneIs (Generates h items)
+generates_once h items a b (no_lines fault e p) (no_lines fault' e' q) =
+    let one : fault ≡ fault' = cc (e, e') in
+    p ∙ ap (λ f. fails (generate_fault f)) one ∙ sym q
+generates_once h items a b (no_lines fault e p) (has_lines g lines at named e' are is q) = absurd (let no : Err fault ≡ Ok g = sym e ∙ e' in cc)
+generates_once h items a b (has_lines g lines at named e are is p) (no_lines fault e' q) = absurd (let no : Ok g ≡ Err fault = sym e ∙ e' in cc)
+generates_once h items a b (has_lines g lines at named e are is p) (has_lines g' lines' at' named' e' are' is' q) =
+    let one : g' ≡ g = cc (e, e') in
+    let text = one_text g.templates g.values lines lines' at at' are (subst (λ (t : Generation). AreLines t.templates t.values lines' at') one are') in
+    let name : named ≡ named' = one_or_none_once (SpellsLast h.origin (last_owner g.templates g.values)) (last_once h.origin (last_owner g.templates g.values)) named named' is (subst (λ (t : Generation). IsOneOrNone (SpellsLast h.origin (last_owner t.templates t.values)) named') one is') in
+    p ∙ ap (λ t. as_lines t (after_lines named h) at) text.0 ∙ ap (λ n. as_lines lines' (after_lines n h) at) name ∙ ap (as_lines lines' (after_lines named' h)) text.1 ∙ sym q
+
+directive_once : (test : Bool) (h : Holds) (entry : List ℕ) (items : List RawItem) → AtMostOneIs (DirectiveBecomes test h entry items)
+directive_once true h entry items a b p q = generates_once h (drop 1 items) a b p q
+directive_once false h entry items a b p q = p ∙ sym q
 
 -- a file name denotes one file
 abbrev pub OneName : Type 0
@@ -100,7 +126,7 @@ module _ (one_name : OneName) where
   statement_once h entry items includes a b p q = includes_once h (drop 1 items) a b p q
   statement_once h entry items no_items a b p q = p ∙ sym q
   statement_once h entry items (sets_ttl times) a b p q = p ∙ sym q
-  statement_once h entry items unknown a b p q = p ∙ sym q
+  statement_once h entry items unknown a b p q = directive_once (says_generate items) h entry items a b p q
 
   pub entry_once : (h : Holds) (tokens : List Token) → AtMostOneIs (EntryBecomes h tokens)
   entry_once h tokens a b p q = statement_once h (text tokens) (flat_map item_of tokens) (statement_of (entry_of 1 tokens)) a b p q
@@ -136,6 +162,7 @@ module _ (one_name : OneName) where
       record { text_same = p.1 ∙ ap (λ t. made ++ t) one.text_same ∙ sym q.1; ending_same = one.ending_same }
   after_entry_once Rest Opens rest_once opens_once w o e l (opens name origin) p q = opens_once name origin w o e l p q
   after_entry_once Rest Opens rest_once opens_once w o e l (fails fault) p q = record { text_same = p.0 ∙ sym q.0; ending_same = p.1 ∙ sym q.1 }
+  after_entry_once Rest Opens rest_once opens_once w o e l (lacks_line lines value) p q = record { text_same = p.0 ∙ sym q.0; ending_same = p.1 ∙ sym q.1 }
 
   module _ (Opens : List ℕ → Labels → Expanding) (once : (name : List ℕ) (origin : Labels) → ExpandsOnce (Opens name origin)) where
     each_once : (entries : List (List Token)) (h : Holds) (tail : Option (List ℕ)) (written other : List ℕ) (ending last : Ending) → EachExpands Opens h entries tail written ending → EachExpands Opens h entries tail other last → OneText written other ending last
@@ -166,6 +193,7 @@ module _ (one_name : OneName) where
       record { text_same = p.1 ∙ ap (λ t. origin_line h.origin ++ t) one.text_same ∙ sym q.1; ending_same = one.ending_same }
   after_included_once Rest once h w o e l breaks_off p q = record { text_same = p.0 ∙ sym q.0; ending_same = p.1 ∙ sym q.1 }
   after_included_once Rest once h w o e l (stops fault) p q = record { text_same = p.0 ∙ sym q.0; ending_same = p.1 ∙ sym q.1 }
+  after_included_once Rest once h w o e l (stops_at value) p q = record { text_same = p.0 ∙ sym q.0; ending_same = p.1 ∙ sym q.1 }
   after_included_once Rest once h w o e l (wants name) p q = record { text_same = p.0 ∙ sym q.0; ending_same = p.1 ∙ sym q.1 }
 
   opening_once : (files : Files) (name : List ℕ) (origin : Labels) → ExpandsOnce (Opening files name origin)

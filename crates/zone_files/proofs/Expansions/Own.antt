@@ -1,4 +1,4 @@
--- A file without `$INCLUDE` is its own expansion.
+-- A file without `$INCLUDE` and `$GENERATE` is its own expansion.
 use Rattle.std.proofs.Common.{◌≡◌, ℕ, zero, ◌<◌, List, [], ◌∷◌, ◌++◌, Option, Some, None, Bool, true, false, if◌then◌else◌, bytes_eq, codes, ◌==◌, refl, sym, ap, subst, ◌∙◌, append_assoc, append-nil, ◌⊎◌, inl, inr, arith}
 use Rattle.std.specs.List.{AllByRecursion, flat_map, slice_get}
 use Rattle.std.specs.Option.{option_or}
@@ -24,7 +24,7 @@ use Rattle.zone_text.specs.Tokens.{Token, Cuts, blank, closing, comment, is_blan
 use Rattle.zone_text.specs.Tokens as tokens
 use Rattle.zone_words.specs.Inherited.{IsOneOrNone}
 use Rattle.zone_words.specs.Origin.{NamesOrigin}
-use Rattle.zone_files.specs.Expansion.{EachExpands, Ending, Expanding, Files, HasNoInclude, Holds, IsExpanded, IsFile, Opening, SpellsOwner, StatementBecomes, at_first, breaks_off, broken, each_with_line_feed, ends, last_line, owned_by, same, stays, under, whole}
+use Rattle.zone_files.specs.Expansion.{DirectiveBecomes, EachExpands, Ending, Expanding, Files, HasPlainEntries, Holds, IsExpanded, IsFile, IsPlain, Opening, SpellsOwner, StatementBecomes, at_first, breaks_off, broken, each_with_line_feed, ends, last_line, owned_by, same, says_generate, stays, under, whole}
 
 -- ---- names, or none
 
@@ -89,14 +89,17 @@ low_statement (Some c) (item ∷ items) low =
 abbrev HasOwn : Holds → List ℕ → List RawItem → Statement → Type 0
 HasOwn h entry items s = (next : Holds) × StatementBecomes h entry items s (stays entry next) × IsOwn next
 
-own_statement : (h : Holds) → IsOwn h → (entry : List ℕ) (items : List RawItem) (s : Statement) → IsLow s → (s ≡ includes → ⊥) → HasOwn h entry items s
+own_unknown : (h : Holds) → IsOwn h → (entry : List ℕ) (items : List RawItem) → says_generate items ≡ false → HasOwn h entry items unknown
+own_unknown h own entry items other = (h, subst (λ test. DirectiveBecomes test h entry items (stays entry h)) (sym other) refl, own)
+
+own_statement : (h : Holds) → IsOwn h → (entry : List ℕ) (items : List RawItem) (s : Statement) → IsLow s → (s ≡ includes → ⊥) × (s ≡ unknown → says_generate items ≡ false) → HasOwn h entry items s
 own_statement h own entry items (sets_origin names) low none = let n = origin_or_not h.origin own.name names low in (under n.0 h, (n.0, n.1, refl), own_under h own n.0 n.2)
 own_statement h own entry items (owned item rest) low none = let n = owner_or_not h.origin own.name item low in (owned_by n.0 h, (n.0, n.1, refl), own_owned h own n.0)
 own_statement h own entry items (unowned rest) low none = (h, same own.owner refl, own)
-own_statement h own entry items includes low none = absurd (none refl)
+own_statement h own entry items includes low none = absurd (none.0 refl)
 own_statement h own entry items no_items low none = (h, refl, own)
 own_statement h own entry items (sets_ttl times) low none = (h, refl, own)
-own_statement h own entry items unknown low none = (h, refl, own)
+own_statement h own entry items unknown low none = own_unknown h own entry items (none.1 refl)
 
 -- ---- the items of tokens of octets are octets
 
@@ -120,15 +123,15 @@ low_items (comment octets ∷ ts) low = low_items ts (back_low (token_text (comm
 
 -- ---- a file
 
-abbrev NoInclude : List (List Token) → Type 0
-NoInclude entries = AllByRecursion (λ (entry : List Token). statement_of (entry_of 1 entry) ≡ includes → ⊥) entries
+abbrev ArePlain : List (List Token) → Type 0
+ArePlain entries = AllByRecursion IsPlain entries
 
 abbrev behind : Option (List ℕ) → List ℕ
 behind None = []
 behind (Some rest) = rest
 
 module _ (Opens : List ℕ → Labels → Expanding) where
-  each_own : (entries : List (List Token)) (h : Holds) (tail : Option (List ℕ)) → IsOwn h → NoInclude entries → AreOctets (flat_map text entries) → (ending : Ending) × EachExpands Opens h entries tail (flat_map text entries ++ behind tail) ending × (last_line ending ≡ [])
+  each_own : (entries : List (List Token)) (h : Holds) (tail : Option (List ℕ)) → IsOwn h → ArePlain entries → AreOctets (flat_map text entries) → (ending : Ending) × EachExpands Opens h entries tail (flat_map text entries ++ behind tail) ending × (last_line ending ≡ [])
   each_own [] h None own none low = (ends h, (refl, refl), refl)
   each_own [] h (Some rest) own none low = (breaks_off, (refl, refl), refl)
   each_own (entry ∷ entries) h tail own none low =
@@ -153,7 +156,7 @@ abbrev pub IsOwnText : List ℕ → List ℕ → Type 0
 IsOwnText octets expanded = (expanded ≡ octets) ⊎ (expanded ≡ octets ++ 10 ∷ [])
 
 module _ (directory : Option (List ℕ)) (name : List ℕ) (origin : Labels) (octets : List ℕ) (files : Files) (is : IsCasedName origin) where
-  expands_own : (entries : List (List Token)) (tail : Option (List ℕ)) → IsFile octets entries tail → NoInclude entries → AreOctets (flat_map text entries) → (ending : Ending) × IsExpanded directory name origin octets files (flat_map text entries ++ behind tail) ending
+  expands_own : (entries : List (List Token)) (tail : Option (List ℕ)) → IsFile octets entries tail → ArePlain entries → AreOctets (flat_map text entries) → (ending : Ending) × IsExpanded directory name origin octets files (flat_map text entries ++ behind tail) ending
   expands_own entries tail file none low =
       let e = each_own (Opening files) entries (at_first directory name origin) tail (record { owner = refl; name = is }) none low in (
         e.0,
@@ -167,7 +170,7 @@ module _ (directory : Option (List ℕ)) (name : List ℕ) (origin : Labels) (oc
   abbrev HasOwnText : Type 0
   HasOwnText = (expanded : List ℕ) × (ending : Ending) × IsExpanded directory name origin octets files expanded ending × IsOwnText octets expanded
 
-  whole_own : (ts : List Token) → Cuts octets ts → AreOctets octets → NoInclude (each_with_line_feed (cut_from zero ts).ended (cut_from zero ts).open_tokens) → HasOwnText
+  whole_own : (ts : List Token) → Cuts octets ts → AreOctets octets → ArePlain (each_with_line_feed (cut_from zero ts).ended (cut_from zero ts).open_tokens) → HasOwnText
   whole_own ts cut low none =
       let entries : List (List Token) = each_with_line_feed (cut_from zero ts).ended (cut_from zero ts).open_tokens in
       let same_text : flat_map text (and_last (cut_from zero ts).ended (cut_from zero ts).open_tokens) ≡ octets = entries_text ts ∙ sym cut.whole in
@@ -176,12 +179,12 @@ module _ (directory : Option (List ℕ)) (name : List ℕ) (origin : Labels) (oc
         | inr e ↦ (let x = expands_own entries None (whole ts cut refl refl) none (subst AreOctets (sym (e ∙ ap (λ t. t ++ 10 ∷ []) same_text)) (AllByRecursion-append (λ c. c < 256) octets (10 ∷ []) low (omega arith, tt))) in (flat_map text entries ++ [], x.0, x.1, inr (append-nil (flat_map text entries) ∙ e ∙ ap (λ t. t ++ 10 ∷ []) same_text)))
       ]
 
-  broken_own : (ts : List Token) (fault : Fault) → Breaks octets ts fault → (rest : List ℕ) → octets ≡ flat_map text (cut_from zero ts).ended ++ rest → AreOctets octets → NoInclude (cut_from zero ts).ended → HasOwnText
+  broken_own : (ts : List Token) (fault : Fault) → Breaks octets ts fault → (rest : List ℕ) → octets ≡ flat_map text (cut_from zero ts).ended ++ rest → AreOctets octets → ArePlain (cut_from zero ts).ended → HasOwnText
   broken_own ts fault breaks rest parts low none =
       let x = expands_own (cut_from zero ts).ended (Some rest) (broken ts fault rest breaks refl parts refl) none (front_low (flat_map text (cut_from zero ts).ended) rest (subst AreOctets parts low)) in
       (flat_map text (cut_from zero ts).ended ++ rest, x.0, x.1, inl (sym parts))
 
-  pub own_expansion : AreOctets octets → HasNoInclude octets → HasOwnText
+  pub own_expansion : AreOctets octets → HasPlainEntries octets → HasOwnText
   own_expansion low none = elim (cut_or_broken octets) [
     | inl cut ↦ whole_own cut.0 cut.1 low (none _ None (whole cut.0 cut.1 refl refl))
     | inr breaks ↦ (let rest : List ℕ = text (cut_from zero breaks.0).open_tokens ++ breaks.2.rest in

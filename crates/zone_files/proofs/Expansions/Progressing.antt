@@ -8,10 +8,11 @@ use Rattle.zone_text.specs.Entries.{item_of}
 use Rattle.zone_text.specs.Kept.{AreKept, KeepsItems}
 use Rattle.zone_text.specs.Statements.{statement_by}
 use Rattle.zone_text.specs.Tokens.{Token, line_feed, text, token_text}
-use Rattle.zone_files.specs.Expansion.{EntryBecomes, Holds, Outcome, StatementBecomes, fails, opens, origin_line, stays}
+use Rattle.zone_files.specs.Expansion.{EntryBecomes, Holds, Outcome, StatementBecomes, as_lines, fails, opens, origin_line, stays}
+use Rattle.zone_generate.specs.Entry.{Generation}
 use Rattle.zone_files.specs.Machine.Expanding.{EntersLast, EntersOctets}
-use Rattle.zone_files.specs.Machine.Progressing.{Enters, end_of, has_failed, has_opened, named_of, was_written}
-use Rattle.zone_files.specs.Machine.Stepping.{IsLeft, IsWritten, TakesEntry}
+use Rattle.zone_files.specs.Machine.Progressing.{Enters, end_of, has_begun, has_failed, has_opened, named_of, was_written}
+use Rattle.zone_files.specs.Machine.Stepping.{IsBegun, IsLeft, IsWritten, TakesEntry}
 use Rattle.zone_files.specs.declared.expansion.progress.FileStatus.TheVariants as statuses
 use Rattle.zone_files.specs.declared.expansion.progress.Progress.{Progress}
 use Rattle.zone_files.specs.declared.expansion.step.Step.{Step}
@@ -35,6 +36,13 @@ module _ (old new : Progress) (entry : List ℕ) (kept : List RawItem) (last : B
   entered_opened after name origin is out st inc end tokens says are =
       let w : IsLeft (StatementBecomes old.holding entry kept (statement_by (slice_get entry 0) kept)) (opens name origin) old.holding holding before middle = subst (λ s. TakesEntry old.holding entry kept s holding before middle) is takes in
       has_opened (record { name = name; origin = origin }) (becomes_of old.holding entry kept (opens name origin) tokens says are w.becomes) (out ∙ ap (λ t. t ++ origin_line origin) w.nothing) (held ∙ w.same) st inc end
+
+  pub entered_begun : (after : List ℕ) (g : Generation) → step ≡ steps.Generates g → after ≡ middle → new.status ≡ statuses.Generating → new.generated ≡ Some g → new.last ≡ last → Enters old entry kept last new before after
+  entered_begun after g is out st gen end tokens says are =
+      let w : IsBegun (StatementBecomes old.holding entry kept (statement_by (slice_get entry 0) kept)) g holding before middle = subst (λ s. TakesEntry old.holding entry kept s holding before middle) is takes in
+      has_begun g
+      (λ lines fault all. becomes_of old.holding entry kept (as_lines lines new.holding fault) tokens says are (subst (λ h. StatementBecomes old.holding entry kept (statement_by (slice_get entry 0) kept) (as_lines lines h fault)) (sym held) (w.becomes lines fault all)))
+      (out ∙ w.nothing) st gen end
 
   pub entered_failed : (after : List ℕ) (fault : ExpansionFault) → step ≡ steps.Fails fault → after ≡ middle → new.status ≡ statuses.Faulty fault → Enters old entry kept last new before after
   entered_failed after fault is out st tokens says are =

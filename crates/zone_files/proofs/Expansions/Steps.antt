@@ -12,8 +12,8 @@ use Rattle.zone_text.specs.Entries.{Cut, cut_from}
 use Rattle.zone_text.specs.FirstEntry.{IsBrokenOff, IsOneEntry}
 use Rattle.zone_text.specs.Tokens.{Token, Cuts, line_feed, text}
 use Rattle.zone_words.proofs.Files.{closed}
-use Rattle.zone_files.specs.Expansion.{AfterIncluded, EachExpands, Ending, EntryBecomes, Expands, Files, Holds, IsFile, Opening, back_in, breaks_off, broken, each_with_line_feed, ends, fails, file, no_files, opens, origin_line, stays, stops, wants, whole, within}
-use Rattle.zone_files.specs.FileExpander.{AfterInner, Continues, then}
+use Rattle.zone_files.specs.Expansion.{AfterIncluded, EachExpands, Ending, EntryBecomes, Expands, Files, Holds, IsFile, Opening, as_lines, back_in, breaks_off, broken, each_with_line_feed, ends, fails, file, lacks_line, no_files, opens, origin_line, stays, stops, stops_at, wants, whole, within}
+use Rattle.zone_files.specs.FileExpander.{AfterInner, AfterLines, Continues, then}
 use Rattle.zone_files.specs.declared.fault.ExpansionFault.{ExpansionFault}
 
 -- ---- the entries of a file
@@ -109,6 +109,9 @@ module _ (start h : Holds) (fed : List ℕ) (files : Files) (given : List ℕ) w
       pub leads_failed : (fault : ExpansionFault) → EntryBecomes h tokens (fails fault) → Expands start fed files given (stops fault)
       leads_failed fault becomes = subst (λ t. Expands start fed files t (stops fault)) (append-nil given) (alone [] (stops fault) (record { entries = tokens ∷ entries; tail = tail; is_file = is; each = (fails fault, becomes, (refl, refl)) }))
 
+      pub leads_lacking : (lines : List ℕ) (value : ℕ) → EntryBecomes h tokens (lacks_line lines value) → Expands start fed files (given ++ lines) (stops_at value)
+      leads_lacking lines value becomes = alone lines (stops_at value) (record { entries = tokens ∷ entries; tail = tail; is_file = is; each = (lacks_line lines value, becomes, (refl, refl)) })
+
       pub leads_stopped : (name : List ℕ) (origin : Labels) (own : List ℕ) (inner : Files) (inside : List ℕ) (ending : Ending) → EntryBecomes h tokens (opens name origin) → Expands (within name origin h) own inner inside ending
           → AfterIncluded (λ next more end. EachExpands (Opening no_files) next entries tail more end) h [] ending ending
           → Expands start fed (then files (file own inner no_files)) ((given ++ origin_line origin) ++ inside) ending
@@ -120,6 +123,11 @@ module _ (start h : Holds) (fed : List ℕ) (files : Files) (given : List ℕ) w
     module _ (tokens : List Token) (is : IsFile octets (tokens ∷ []) None) where
       pub leads_ended : (made : List ℕ) (next : Holds) → EntryBecomes h tokens (stays made next) → Expands start fed files (given ++ made) (ends next)
       leads_ended made next becomes = alone made (ends next) (record { entries = tokens ∷ []; tail = None; is_file = is; each = (stays made next, becomes, ([], sym (append-nil made), (refl, refl))) })
+
+      -- after the lines of the last entry
+      pub leads_lines : (next : Holds) (lines : List ℕ) (fault : Option ℕ) → EntryBecomes h tokens (as_lines lines next fault) → AfterLines true start next fed files (given ++ lines) fault
+      leads_lines next lines None becomes = leads_ended lines next becomes
+      leads_lines next lines (Some value) becomes = leads_lacking tokens [] None is lines value becomes
 
       -- after an included file, which was in the last entry
       pub leads_back : (name : List ℕ) (origin : Labels) (own : List ℕ) (inner : Files) (inside : List ℕ) (below : Holds) → EntryBecomes h tokens (opens name origin) → Expands (within name origin h) own inner inside (ends below)
@@ -134,6 +142,7 @@ module _ (start h : Holds) (fed : List ℕ) (files : Files) (given : List ℕ) w
       leads_after name origin becomes own inner inside (ends below) x = leads_back name origin own inner inside below becomes x
       leads_after name origin becomes own inner inside breaks_off x = leads_stopped tokens [] None is name origin own inner inside breaks_off becomes x (refl, refl)
       leads_after name origin becomes own inner inside (stops fault) x = leads_stopped tokens [] None is name origin own inner inside (stops fault) becomes x (refl, refl)
+      leads_after name origin becomes own inner inside (stops_at value) x = leads_stopped tokens [] None is name origin own inner inside (stops_at value) becomes x (refl, refl)
       leads_after name origin becomes own inner inside (wants other) x = leads_stopped tokens [] None is name origin own inner inside (wants other) becomes x (refl, refl)
 
 -- ---- octets that are an entry, and what follows them
@@ -157,6 +166,10 @@ module _ (start h : Holds) (w part fed : List ℕ) (files : Files) (given : List
     pub continues_failed : (fault : ExpansionFault) → EntryBecomes h tokens (fails fault) → Expands start (fed ++ part) files given (stops fault)
     continues_failed fault becomes = leads_failed start h (fed ++ part) files given (w ++ part) (c part) tokens [] None (file_one (w ++ part) tokens one) fault becomes
 
+    pub continues_lines : (next : Holds) (lines : List ℕ) (fault : Option ℕ) → EntryBecomes h tokens (as_lines lines next fault) → AfterLines false start next (fed ++ part) files (given ++ lines) fault
+    continues_lines next lines None becomes = continues_entry lines next becomes
+    continues_lines next lines (Some value) becomes = leads_lacking start h (fed ++ part) files given (w ++ part) (c part) tokens [] None (file_one (w ++ part) tokens one) lines value becomes
+
     continues_back : (name : List ℕ) (origin : Labels) (own : List ℕ) (inner : Files) (inside : List ℕ) (below : Holds) → EntryBecomes h tokens (opens name origin) → Expands (within name origin h) own inner inside (ends below)
         → Continues start (back_in h below) [] (fed ++ part) (then files (file own inner no_files)) (((given ++ origin_line origin) ++ inside) ++ origin_line h.origin)
     continues_back name origin own inner inside below becomes x more later written ending y =
@@ -170,6 +183,7 @@ module _ (start h : Holds) (w part fed : List ℕ) (files : Files) (given : List
     continues_after name origin becomes own inner inside (ends below) x = continues_back name origin own inner inside below becomes x
     continues_after name origin becomes own inner inside breaks_off x = leads_stopped start h (fed ++ part) files given (w ++ part) (c part) tokens [] None (file_one (w ++ part) tokens one) name origin own inner inside breaks_off becomes x (refl, refl)
     continues_after name origin becomes own inner inside (stops fault) x = leads_stopped start h (fed ++ part) files given (w ++ part) (c part) tokens [] None (file_one (w ++ part) tokens one) name origin own inner inside (stops fault) becomes x (refl, refl)
+    continues_after name origin becomes own inner inside (stops_at value) x = leads_stopped start h (fed ++ part) files given (w ++ part) (c part) tokens [] None (file_one (w ++ part) tokens one) name origin own inner inside (stops_at value) becomes x (refl, refl)
     continues_after name origin becomes own inner inside (wants other) x = leads_stopped start h (fed ++ part) files given (w ++ part) (c part) tokens [] None (file_one (w ++ part) tokens one) name origin own inner inside (wants other) becomes x (refl, refl)
 
   -- ---- octets that break, whatever follows them

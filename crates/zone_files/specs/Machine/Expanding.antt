@@ -16,6 +16,7 @@ state_of x = record {
   waiting = x.unfinished.octets;
   status = x.progress.status;
   included = named_of x.progress.included;
+  generated = x.progress.generated;
   last = x.progress.last;
 }
 
@@ -54,6 +55,8 @@ TakesInnerBy statuses.BrokenOff old inner new before after =
     (after ≡ before) × (new.status ≡ statuses.BrokenOff)
 TakesInnerBy (statuses.Faulty fault) old inner new before after =
     (after ≡ before) × (new.status ≡ statuses.Faulty fault)
+TakesInnerBy (statuses.FaultyAt value) old inner new before after =
+    (after ≡ before) × (new.status ≡ statuses.FaultyAt value)
 TakesInnerBy status old inner new before after =
     (after ≡ before) × (new.status ≡ statuses.Failed)
 

@@ -1,7 +1,7 @@
 -- How the files that are open go on, before a fault ends the text.
-use Rattle.std.specs.Prelude.{◌≡◌, ℕ, ◌+◌, List, ◌++◌}
+use Rattle.std.specs.Prelude.{◌≡◌, ℕ, ◌+◌, ◌≤◌, ◌⊎◌, List, ◌++◌, length}
 use Rattle.zone_files.specs.Expansion.{Holds}
-use Rattle.zone_files.specs.IncludeStack.{FedFiles, StackState, StandForFiles, fed_more, feeds_in, stop_line}
+use Rattle.zone_files.specs.IncludeStack.{FedFiles, StackState, StandForFiles, fed_ended, fed_more, feeds_in, stop_line}
 use Rattle.zone_files.specs.Places.{counted}
 
 -- this was given, and what was fed changed so
@@ -20,6 +20,21 @@ pub record TakesPart (old : StackState) (octets left : List ℕ) (new : StackSta
   pub whole : octets ≡ part ++ left
   pub outer : new.outer ≡ old.outer
   pub gives : GivesOn old (fed_more part) new before after
+
+-- So many files have ended since a start, with the one that was the innermost before the first of them
+-- ended.
+pub record EndsSoFar (start old new : StackState) (before after : List ℕ) : Type 0 where
+  pub ended : ℕ
+  pub outer : length start.outer ≡ ended + length new.outer
+  pub gives : GivesOn start (fed_ended ended) new before after
+  pub same : (new.innermost ≡ old.innermost) ⊎ (1 ≤ ended)
+
+-- Each file ends whose last entry included the one that ended, whatever was given since a start for
+-- the innermost file.
+abbrev pub EndsOutward : StackState → StackState → List ℕ → List ℕ → Type 0
+EndsOutward old new before after =
+    (start : StackState) (first : List ℕ) → old.outer ≡ start.outer
+    → GivesOn start (λ fed. fed) old first before → EndsSoFar start old new first after
 
 -- the last line was written, where a fault has ended the text
 pub record StopsText (old new : StackState) (before after : List ℕ) : Type 0 where

@@ -1,21 +1,25 @@
 //! A file that is expanded while it is read, with those that it includes.
-ghost use Rattle.std.specs.Prelude.{◌≡◌, ◌++◌, ◌⊎◌, ◌≤◌, [], None, Some, IfNone, IfOk, IfSome, OnErr, OnOk, option_map};
+ghost use Rattle.std.specs.Prelude.{◌≡◌, ◌++◌, ◌⊎◌, ◌≤◌, ℕ, suc, [], None, Some, IfNone, IfOk, IfSome, OnErr, OnOk, option_map};
 ghost use Rattle.zone_files.specs.Expansion.{at_first, no_files, within};
-ghost use Rattle.zone_files.specs.FileExpander.{Feeds, IsOver, NamedFile, StandsFor, TakesIncluded, WritesFor};
-ghost use Rattle.zone_files.specs.declared.expansion.progress.FileStatus.TheVariants.{Going, Including, Failed};
+ghost use Rattle.zone_files.specs.FileExpander.{AddsWithin, Feeds, HasFewerLines, IsOver, NamedFile, StandsFor, TakesIncluded, WritesFor, lines_left};
+ghost use Rattle.zone_generate.specs.Entry.{Generation};
+ghost use Rattle.zone_generate.specs.Range.{values_from};
+ghost use Rattle.zone_files.specs.declared.expansion.progress.FileStatus.TheVariants.{Generating, Going, Including, Failed};
 
 use crate::expansion::file_expansion::FileExpansion;
 use crate::expansion::holding::Holding;
 use crate::expansion::progress::FileStatus;
 use std::alloc::{AllocError, Global};
 use std::marker::Model;
+use zone_generate::NextValue;
 use zone_name::CasedName;
 
 /// An expander of a file that is fed in pieces (RFC 1035 5.1). It keeps the entry that isn't ended,
 /// and no expanded text.
 ///
 /// Where it meets an `$INCLUDE` it stops, and its caller opens the file: `begin_included` gives the
-/// expander of that file, and `end_included` goes on after it.
+/// expander of that file, and `end_included` goes on after it. Where it meets a `$GENERATE` it stops
+/// too, and `generate` appends the lines, some at a time.
 #[derive(Drop)]
 pub struct FileExpander {
     expansion: FileExpansion,
@@ -57,7 +61,8 @@ impl FileExpander {
     }
 
     /// Takes the next piece of the file, appends what is expanded of it, and returns the octets that
-    /// are left: none where further pieces may come, or those after an `$INCLUDE` or a fault.
+    /// are left: none where further pieces may come, or those after an `$INCLUDE`, a `$GENERATE` or a
+    /// fault.
     ///
     /// # Errors
     ///
@@ -165,6 +170,44 @@ impl FileExpander {
         ensures { self.new.status ≡ Failed }
     {
         self.expansion.fail();
+    }
+
+    /// Appends the next lines of the `$GENERATE` that was met, up to the first with which 65,536 octets
+    /// or more are appended. It is called until the status is another than `Generating`. Where it is
+    /// another already, nothing is done.
+    ///
+    /// # Errors
+    ///
+    /// `AllocError`. The expander has failed then, and `out` may have got some of the lines.
+    pub fn generate(&mut self, out: &mut Vec<u8>) -> Result<(), AllocError>
+        ensures writes { OnOk result
+            (WritesFor self.old [] self.new out.old.items out.new.items) }
+        ensures fewer { OnOk result
+            (self.old.status ≡ Generating → HasFewerLines self.old self.new) }
+        ensures within { OnOk result
+            (AddsWithin self.old.generated out.old.items out.new.items) }
+        ensures failed { OnErr result (self.new.status ≡ Failed) }
+    {
+        match self.expansion.generate(out) {
+            Ok(()) => Ok(()),
+            Err(refused) => {
+                self.expansion.fail();
+                Err(refused)
+            }
+        }
+    }
+
+    /// The value of the line that `generate` appends next, and the step from each value to the one
+    /// after it. `None`: no lines come first.
+    pub fn next_value(&self) -> Option<NextValue>
+        ensures some { IfSome result (λ next. (g : Generation) × (self.now.generated ≡ Some g)
+            × (count : ℕ) × (g.values ≡ values_from (suc count) next.step next.value)) }
+        ensures none { IfNone result (lines_left self.now.generated ≡ 0) }
+    {
+        match &self.expansion.progress.generated {
+            Some(lines) => lines.next_value(),
+            None => None,
+        }
     }
 
     /// How far the expansion of the file has come.

@@ -1,8 +1,8 @@
 //! A file that is expanded while it is read.
 ghost use Rattle.std.specs.Prelude.{◌≡◌, ◌<◌, ◌≤◌, ◌+◌, ◌++◌, ◌∷◌, ◌⊎◌, [], ℕ, List, None, Some, length, map, take, true, false, IfOk, OnOk, OnErr};
-ghost use Rattle.zone_files.specs.FileExpander.{IsOver};
-ghost use Rattle.zone_files.specs.Machine.Expanding.{EntersLast, EntersOctets, Follows, IsExpander, TakesFront, TakesInner};
-ghost use Rattle.zone_files.specs.declared.expansion.progress.FileStatus.TheVariants.{Broken, Ended, Going, Including, Failed};
+ghost use Rattle.zone_files.specs.FileExpander.{AddsWithin, HasFewerLines, IsOver};
+ghost use Rattle.zone_files.specs.Machine.Expanding.{EntersLast, EntersOctets, Follows, IsExpander, TakesFront, TakesInner, state_of};
+ghost use Rattle.zone_files.specs.declared.expansion.progress.FileStatus.TheVariants.{Broken, Ended, Generating, Going, Including, Failed};
 ghost use Rattle.zone_text.specs.declared.open_entry.EntryState.TheVariants.{Open};
 
 use crate::expansion::holding::Holding;
@@ -178,6 +178,7 @@ impl FileExpansion {
                 holding,
                 status: FileStatus::Going,
                 included: None,
+                generated: None,
                 last: false,
             },
             unfinished: OpenEntry::new(alloc),
@@ -191,6 +192,24 @@ impl FileExpansion {
     {
         self.unfinished.clear();
         self.progress.status = FileStatus::Failed;
+    }
+
+    /// Writes the next of the lines that come first.
+    pub(crate) fn generate(&mut self, out: &mut Vec<u8>) -> Result<(), AllocError>
+        requires is { IsExpander self.old }
+        ensures is { OnOk result (IsExpander self.new) }
+        ensures follows { OnOk result
+            (Follows self.old [] self.new out.old.items out.new.items) }
+        ensures fewer { OnOk result (self.old.progress.status ≡ Generating
+            → HasFewerLines (state_of self.old) (state_of self.new)) }
+        ensures within { OnOk result
+            (AddsWithin self.old.progress.generated out.old.items out.new.items) }
+    {
+        if !self.progress.is_generating() {
+            return Ok(());
+        }
+        self.unfinished.clear();
+        self.progress.push_lines(out)
     }
 
     /// Goes on after the file that an `$INCLUDE` names, whose expansion ended so.
@@ -224,7 +243,14 @@ impl FileExpansion {
                 self.progress.status = FileStatus::Faulty(fault);
                 Ok(())
             }
-            FileStatus::Going | FileStatus::Including | FileStatus::Failed => {
+            FileStatus::FaultyAt(value) => {
+                self.progress.status = FileStatus::FaultyAt(value);
+                Ok(())
+            }
+            FileStatus::Going
+            | FileStatus::Including
+            | FileStatus::Generating
+            | FileStatus::Failed => {
                 self.progress.status = FileStatus::Failed;
                 Ok(())
             }

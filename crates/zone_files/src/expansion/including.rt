@@ -33,7 +33,7 @@ fn text_of<'t>(item: Item<'t>) -> &'t [u8]
 }
 
 /// The items after the first.
-fn after_first<'i, 't>(items: &'i [Item<'t>]) -> &'i [Item<'t>]
+pub(crate) fn after_first<'i, 't>(items: &'i [Item<'t>]) -> &'i [Item<'t>]
     ensures { map raw result.now ≡ drop 1 (map raw items.now) }
 {
     match items {

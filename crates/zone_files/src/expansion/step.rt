@@ -1,15 +1,17 @@
 //! What becomes of an entry of a file.
 ghost use Rattle.std.specs.Prelude.{◌≡◌, ◌++◌, map, IfOk};
 ghost use Rattle.zone_rdata.specs.Item.{raw};
-ghost use Rattle.zone_files.specs.Machine.Stepping.{TakesEntry, Unowned};
+ghost use Rattle.zone_files.specs.Machine.Stepping.{TakesEntry, UnknownAs, Unowned};
 ghost use Rattle.zone_files.specs.declared.expansion.step.Step.TheVariants as steps;
 
+use crate::expansion::generating::says_generate;
 use crate::expansion::holding::Holding;
 use crate::expansion::names::push_name;
 use crate::expansion::opened_name::FileName;
 use crate::expansion::owners::are_same;
 use crate::fault::ExpansionFault;
 use std::alloc::{AllocError, Global};
+use zone_generate::Generated;
 use zone_name::CasedName;
 use zone_rdata::Item;
 use zone_text::{Directive, Statement, statement_of};
@@ -21,6 +23,8 @@ pub(crate) enum Step {
     Written,
     /// The file of this name takes its place, under this origin.
     Opens(FileName, CasedName),
+    /// These lines take its place, which are still to come.
+    Generates(Generated),
     /// Nothing takes its place, and nothing follows.
     Fails(ExpansionFault),
 }
@@ -53,6 +57,24 @@ impl Holding {
         keep(entry, out)
     }
 
+    /// Takes a directive of another word: writes it as it is, or has the lines of a `$GENERATE`.
+    fn take_unknown(
+        &mut self,
+        alloc: Global,
+        entry: &[u8],
+        items: &[Item],
+        out: &mut Vec<u8>,
+    ) -> Result<Step, AllocError>
+        ensures { IfOk result (λ step. UnknownAs self.old entry.now (map raw items.now) step
+            self.new out.old.items out.new.items) }
+    {
+        if says_generate(items) {
+            self.generate(alloc, items)
+        } else {
+            keep(entry, out)
+        }
+    }
+
     /// Writes what takes the place of an entry, of which these items are kept, and takes what it
     /// leaves.
     ///
@@ -77,7 +99,9 @@ impl Holding {
             }
             Statement::Directive(Directive::Ttl(_)) => keep(entry, out),
             Statement::Directive(Directive::Include) => self.include(alloc, items),
-            Statement::Directive(Directive::Unknown) => keep(entry, out),
+            Statement::Directive(Directive::Unknown) => {
+                self.take_unknown(alloc, entry, items, out)
+            }
             Statement::Owned(owner, _) => {
                 self.state_owner(owner);
                 keep(entry, out)

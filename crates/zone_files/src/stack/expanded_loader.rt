@@ -76,8 +76,9 @@ impl ExpandedLoader {
     }
 
     /// Takes the next piece of the innermost file, loads what is expanded of it, and returns the octets
-    /// of the piece that are left: none where further pieces may come, or those after an `$INCLUDE` or
-    /// a fault. The octets left after an `$INCLUDE` are to be fed once the included file has ended.
+    /// of the piece that are left: none where further pieces may come, or those after an `$INCLUDE`, a
+    /// `$GENERATE` or a fault. The octets left after an `$INCLUDE` are to be fed once the included file
+    /// has ended, and those after a `$GENERATE` once `generate` has loaded its lines.
     ///
     /// # Errors
     ///
@@ -103,6 +104,23 @@ impl ExpandedLoader {
     {
         self.text.clear();
         self.stack.finish(&mut self.text)?;
+        self.loader.feed(&self.text)?;
+        Ok(())
+    }
+
+    /// Loads the next lines of the `$GENERATE` that was met, as [`IncludeStack::generate`] appends them.
+    /// Where it was the last entry of its file, the last call goes on with the file that includes it.
+    /// It is called until the status of the stack is another than `Generating`. Where it is another
+    /// already, nothing is done.
+    ///
+    /// # Errors
+    ///
+    /// `Memory`. The loader has failed then.
+    pub fn generate(&mut self) -> Result<(), Stop>
+        ensures ends { OnOk result (LoadsEnd self.old self.new) }
+    {
+        self.text.clear();
+        self.stack.generate(&mut self.text)?;
         self.loader.feed(&self.text)?;
         Ok(())
     }
@@ -177,9 +195,14 @@ fn loaded(stack: &IncludeStack, loader: PresentationLoader) -> Result<Zone, Expa
         }
         FileStatus::BrokenOff => whole(loader),
         FileStatus::Faulty(fault) => faulty(loader, fault, stack.next_line()),
-        FileStatus::Going | FileStatus::Including | FileStatus::Broken | FileStatus::Failed => {
-            Err(unread(loader, stack.next_line()))
+        FileStatus::FaultyAt(_) => {
+            faulty(loader, ExpansionFault::BadTemplate, stack.next_line())
         }
+        FileStatus::Going
+        | FileStatus::Including
+        | FileStatus::Generating
+        | FileStatus::Broken
+        | FileStatus::Failed => Err(unread(loader, stack.next_line())),
     }
 }
 

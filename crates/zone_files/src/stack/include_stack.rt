@@ -1,11 +1,11 @@
 //! The files that are open while a main file is expanded.
 ghost use Rattle.std.specs.Prelude.{◌≡◌, ◌<◌, ◌≤◌, ◌+◌, ◌⊎◌, [], None, true, false, length, option_map, IfOk, OnErr, OnOk};
 ghost use Rattle.zone_files.specs.Expansion.{at_first};
-ghost use Rattle.zone_files.specs.FileExpander.{IsOver};
-ghost use Rattle.zone_files.specs.IncludeStack.{BeginsInner, EndsInnermost, FeedsInnermost, StandsForFiles, fed_ended, main_alone, stop_line, wanted_name};
-ghost use Rattle.zone_files.specs.Machine.Stacking.{GivesOn, StopsText, TakesPart};
-ghost use Rattle.zone_files.specs.declared.fault.ExpansionFault.{ExpansionFault};
-ghost use Rattle.zone_files.specs.declared.expansion.progress.FileStatus.TheVariants.{Ended, Failed, Faulty, Going, Including};
+ghost use Rattle.zone_files.specs.ExpandedLoader.{stopped};
+ghost use Rattle.zone_files.specs.FileExpander.{HasFewerLines, IsOver};
+ghost use Rattle.zone_files.specs.IncludeStack.{BeginsInner, EndsInnermost, FeedsInnermost, MakesLines, StandsForFiles, fed_ended, main_alone, stop_line, wanted_name};
+ghost use Rattle.zone_files.specs.Machine.Stacking.{EndsOutward, GivesOn, StopsText, TakesPart};
+ghost use Rattle.zone_files.specs.declared.expansion.progress.FileStatus.TheVariants.{Ended, Failed, Generating, Going, Including};
 
 use crate::expansion::{FileExpander, FileStatus};
 use crate::fault_line::EntryPlace;
@@ -28,6 +28,7 @@ use zone_name::CasedName;
 ///     match stack.status() {
 ///         FileStatus::Going | FileStatus::Broken => .. feed the innermost file, or finish it ..
 ///         FileStatus::Including => .. open the file that is wanted, and begin_included ..
+///         FileStatus::Generating => stack.generate(&mut out)?,
 ///         _ => break,
 ///     }
 /// }
@@ -84,10 +85,11 @@ impl IncludeStack {
 
     /// Takes the next piece of the innermost file, appends what is expanded of it, and returns the
     /// octets of the piece that are left: none where further pieces may come, or those after an
-    /// `$INCLUDE` or a fault. After a fault the text ends with a line `$STOPPED`, and nothing is
-    /// taken any more.
+    /// `$INCLUDE`, a `$GENERATE` or a fault. After a fault the text ends with a line `$STOPPED`, and
+    /// nothing is taken any more.
     ///
-    /// The octets left after an `$INCLUDE` are to be fed once the included file has ended.
+    /// The octets left after an `$INCLUDE` are to be fed once the included file has ended, and those
+    /// after a `$GENERATE` once `generate` has appended its lines.
     ///
     /// # Errors
     ///
@@ -118,6 +120,30 @@ impl IncludeStack {
         ensures failed { OnErr result (self.new.innermost.status ≡ Failed) }
     {
         match self.finish_innermost(out) {
+            Ok(()) => Ok(()),
+            Err(refused) => {
+                self.innermost.fail();
+                Err(refused)
+            }
+        }
+    }
+
+    /// Appends the next lines of the `$GENERATE` that was met, as [`FileExpander::generate`] does, up
+    /// to the first with which 65,536 octets or more of lines are appended. Where the `$GENERATE` was
+    /// the last entry of its file, the last call goes on with the file that includes it. It is called
+    /// until the status is another than `Generating`. Where it is another already, nothing is done.
+    ///
+    /// Where its templates say nothing for a value, or the line isn't one entry, the text ends with a
+    /// line `$STOPPED`.
+    ///
+    /// # Errors
+    ///
+    /// `AllocError`. The stack has failed then, and `out` may have got some of the lines.
+    pub fn generate(&mut self, out: &mut Vec<u8>) -> Result<(), AllocError>
+        ensures makes { OnOk result (MakesLines self.old self.new out.old.items out.new.items) }
+        ensures failed { OnErr result (self.new.innermost.status ≡ Failed) }
+    {
+        match self.generate_innermost(out) {
             Ok(()) => Ok(()),
             Err(refused) => {
                 self.innermost.fail();
@@ -184,7 +210,7 @@ impl IncludeStack {
     }
 
     /// Where the last line of the expanded text comes from: the entry with a fault that has ended the
-    /// text, or the `$INCLUDE` of the file that is wanted.
+    /// text, with the value for which a `$GENERATE` has no line, or the `$INCLUDE` of the file that is wanted.
     pub fn last_place(&self) -> Option<EntryPlace<'_>> {
         self.lines.place_of(self.lines.last_line())
     }
@@ -197,8 +223,8 @@ impl IncludeStack {
         self.lines.place_of(self.lines.origin_line())
     }
 
-    /// How far the expansion has come: that of the innermost file, and `Ended`, `BrokenOff` and
-    /// `Faulty` where the whole text has ended.
+    /// How far the expansion has come: that of the innermost file, and `Ended`, `BrokenOff`, `Faulty`
+    /// and `FaultyAt` where the whole text has ended.
     pub fn status(&self) -> FileStatus
         ensures { result ≡ self.now.innermost.status }
     {
@@ -229,10 +255,15 @@ impl IncludeStack {
 
     /// Whether a fault has ended the text.
     fn is_faulty(&self) -> bool
-        ensures yes { result ≡ true → (fault : ExpansionFault) × (self.now.innermost.status ≡ Faulty fault) }
+        ensures yes { result ≡ true → stop_line self.now.innermost.status ≡ stopped }
+        ensures over { result ≡ true → IsOver self.now.innermost.status
+            × (self.now.innermost.status ≡ Ended → ⊥) }
         ensures no { result ≡ false → stop_line self.now.innermost.status ≡ [] }
     {
-        matches!(self.innermost.status(), FileStatus::Faulty(_))
+        matches!(
+            self.innermost.status(),
+            FileStatus::Faulty(_) | FileStatus::FaultyAt(_)
+        )
     }
 
     /// Feeds the innermost file, unless a fault has ended the text.
@@ -275,10 +306,57 @@ impl IncludeStack {
             return Ok(());
         }
         self.end_innermost(out)?;
+        self.go_on_outward(out)?;
+        self.push_stop_line(out)?;
+        Ok(())
+    }
+
+    /// Makes the next lines, where they come first, and ends the files that end with them.
+    fn generate_innermost(&mut self, out: &mut Vec<u8>) -> Result<(), AllocError>
+        ensures makes { OnOk result (MakesLines self.old self.new out.old.items out.new.items) }
+    {
+        if !self.is_generating() {
+            return Ok(());
+        }
+        self.push_lines(out)?;
+        self.go_on_outward(out)?;
+        self.push_stop_line(out)?;
+        Ok(())
+    }
+
+    /// Whether lines come first.
+    fn is_generating(&self) -> bool
+        ensures yes { result ≡ true → self.now.innermost.status ≡ Generating }
+        ensures no { result ≡ false → self.now.innermost.status ≡ Generating → ⊥ }
+    {
+        matches!(self.innermost.status(), FileStatus::Generating)
+    }
+
+    /// Makes the next of the lines that come first.
+    fn push_lines(&mut self, out: &mut Vec<u8>) -> Result<(), AllocError>
+        ensures gives { OnOk result
+            (GivesOn self.old (λ fed. fed) self.new out.old.items out.new.items) }
+        ensures outer { OnOk result (self.new.outer ≡ self.old.outer) }
+        ensures fewer { OnOk result (self.old.innermost.status ≡ Generating
+            → HasFewerLines self.old.innermost self.new.innermost) }
+    {
+        self.lines.begin_lines(self.innermost.next_value())?;
+        let before = out.as_slice().len();
+        self.innermost.generate(out)?;
+        self.lines.take(&[], out, before);
+        self.lines.end_lines(self.innermost.status())?;
+        Ok(())
+    }
+
+    /// Goes on with each file that waits for one that has ended.
+    fn go_on_outward(&mut self, out: &mut Vec<u8>) -> Result<(), AllocError>
+        ensures ends { OnOk result
+            (EndsOutward self.old self.new out.old.items out.new.items) }
+        ensures main { OnOk result (self.new.innermost.status ≡ Ended → self.new.outer ≡ []) }
+    {
         'ended: while self.has_ended_inner() {
             self.go_on(out)?;
         }
-        self.push_stop_line(out)?;
         Ok(())
     }
 

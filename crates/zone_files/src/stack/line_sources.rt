@@ -3,11 +3,12 @@ ghost use Rattle.std.specs.Prelude.{◌≡◌, ◌+◌, drop, IfOk, OnOk};
 ghost use Rattle.zone_files.specs.IncludeStack.{feeds_in};
 ghost use Rattle.zone_files.specs.Places.{counted};
 
-use crate::expansion::FileName;
+use crate::expansion::{FileName, FileStatus};
 use crate::fault_line::EntryPlace;
 use crate::places::{FilePlace, Places};
 use std::alloc::{AllocError, Global};
 use std::mem;
+use zone_generate::NextValue;
 use zone_text::line_feeds;
 
 /// A file that is open.
@@ -115,6 +116,41 @@ impl LineSources {
             self.innermost = outer;
             self.places
                 .begin(line_of(self.innermost.file, self.innermost.lines), 0)?;
+        }
+        Ok(())
+    }
+
+    /// The next lines are those of a `$GENERATE`, from this value on: each has the place of the entry.
+    ///
+    /// # Errors
+    ///
+    /// `AllocError`.
+    pub(crate) fn begin_lines(&mut self, next: Option<NextValue>) -> Result<(), AllocError>
+        ensures next { OnOk result (self.new.places.next ≡ self.old.places.next) }
+    {
+        let place = self.places.place_of(self.places.next_line());
+        if let (Some(next), Some(place)) = (next, place) {
+            let first = FilePlace {
+                value: Some(next.value),
+                ..place
+            };
+            self.places.begin(first, next.step)?;
+        }
+        Ok(())
+    }
+
+    /// Some lines of a `$GENERATE` were made, and this is how far the file is: it goes on with the
+    /// line after the entry, unless more lines come first, or one is at fault.
+    ///
+    /// # Errors
+    ///
+    /// `AllocError`.
+    pub(crate) fn end_lines(&mut self, status: FileStatus) -> Result<(), AllocError>
+        ensures next { OnOk result (self.new.places.next ≡ self.old.places.next) }
+    {
+        if let FileStatus::Going = status {
+            let line = self.innermost.lines.saturating_add(1);
+            self.places.begin(line_of(self.innermost.file, line), 0)?;
         }
         Ok(())
     }

@@ -23,3 +23,10 @@ returns-clause-faulty c directory name origin s fed files given fault stands is 
   expands = subst (λ st. StandsBy st s (at_first directory name origin) fed files given) is stands;
   expanded_is = refl;
 }
+
+pub returns-clause-lacking : goal.returns-clause-lacking
+returns-clause-lacking c directory name origin s fed files given value stands is = record {
+  written = given;
+  expands = subst (λ st. StandsBy st s (at_first directory name origin) fed files given) is stands;
+  expanded_is = refl;
+}
