@@ -11,4 +11,4 @@ pub returns-clause-faulty : goal.returns-clause-faulty
 returns-clause-faulty c directory name origin s fed text fault stands is = faulty_text directory name origin s fed text stands fault is
 
 pub returns-clause-lacking : goal.returns-clause-lacking
-returns-clause-lacking c directory name origin s fed text value stands is = lacking_text directory name origin s fed text value stands is
+returns-clause-lacking c directory name origin s fed text value stands is = lacking_text directory name origin s fed text stands value is
