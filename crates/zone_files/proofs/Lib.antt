@@ -5,3 +5,5 @@ mod Presenting
 pub mod FileNames
 pub mod Pieces
 pub mod Expansions
+pub mod Stacks
+mod ExpandedLoads

@@ -9,3 +9,5 @@ pub mod FaultLine
 pub mod Machine
 pub mod Expansion
 pub mod FileExpander
+pub mod IncludeStack
+pub mod ExpandedLoader

@@ -5,3 +5,5 @@ pub mod Naming
 pub mod Stepping
 pub mod Progressing
 pub mod Expanding
+pub mod Stacking
+pub mod ExpandedLoading

@@ -24,6 +24,12 @@ pub record NormalisesSource (source : Source) (old new : Option (List ℕ))
   pub written : Appends old new (canon zone)
   pub counted : count ≡ min (length zone.records) (2 ^ 64 - 1)
 
+-- the source denotes a zone, and this is the number of its records
+pub record CountsSource (source : Source) (count : ℕ) : Type 0 where
+  pub zone : Zone
+  pub denotes : SourceDenotes source zone
+  pub counted : count ≡ min (length zone.records) (2 ^ 64 - 1)
+
 -- nothing was written, or a proper prefix of the canonical text of the zone that the source denotes
 abbrev pub WritesSourcePrefix : Source → Option (List ℕ) → Option (List ℕ) → Type 0
 WritesSourcePrefix source old new =

@@ -13,4 +13,5 @@ mod progress;
 mod step;
 
 pub use file_expander::FileExpander;
+pub(crate) use opened_name::FileName;
 pub use progress::FileStatus;

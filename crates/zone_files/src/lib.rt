@@ -10,6 +10,7 @@ mod file_name;
 pub mod laws;
 mod loading;
 mod places;
+mod stack;
 
 pub use bytes::normalise_presentation;
 pub use expansion::{FileExpander, FileStatus};
@@ -24,3 +25,4 @@ pub use loading::{
     normalise_source,
 };
 pub use places::{FilePlace, Places, Stretch};
+pub use stack::{ExpandedLoader, ExpandedRefusal, IncludeStack, explain_source};

@@ -165,6 +165,13 @@ impl FileExpander {
         }
     }
 
+    /// The expander has failed from here on.
+    pub(crate) fn fail(&mut self)
+        ensures { self.new.status ≡ Failed }
+    {
+        self.expansion.fail();
+    }
+
     /// Appends the next lines of the `$GENERATE` that was met, up to the first with which 65,536 octets
     /// or more are appended. It is called until the status is another than `Generating`. Where it is
     /// another already, nothing is done.
