@@ -5,7 +5,6 @@ ghost use Rattle.std.specs.Prelude.{◌≡◌, ◌∷◌, [], slice_index, IfOk,
 ghost use Rattle.zone_name.specs.Common.{AreOctets};
 ghost use Rattle.type_data.specs.Kinds.Base64.Machine.{HasGroups};
 
-use arrayvec::ArrayVec;
 use std::alloc::AllocError;
 
 /// The values of base64 digits, and 255 of other characters, sixteen a row.
@@ -56,45 +55,21 @@ fn octets_of_group(first: u8, second: u8, third: u8, last: u8) -> Option<(u8, u8
     ))
 }
 
-/// How many octets are taken before they are appended.
-const MOST_TAKEN: usize = 96;
-
-/// Takes the octets of the groups at the front, two groups at a time, as many as there is room for,
-/// and gives the text that is left. It stops at two groups that have another character, as padding is.
-fn take_groups<'t>(text: &'t [u8], taken: &mut ArrayVec<u8, MOST_TAKEN>) -> &'t [u8]
-    ensures { HasGroups text.now result.now taken.old.items taken.new.items }
-{
-    let mut rest = text;
-    while let [a, b, c, d, e, f, g, h, after @ ..] = rest {
-        let Some((first, second, third)) = octets_of_group(*a, *b, *c, *d) else {
-            return rest;
-        };
-        let Some((fourth, fifth, sixth)) = octets_of_group(*e, *f, *g, *h) else {
-            return rest;
-        };
-        let octets = [first, second, third, fourth, fifth, sixth];
-        let Ok(()) = taken.try_extend_from_slice(&octets) else {
-            return rest;
-        };
-        rest = after;
-    }
-    rest
-}
-
-/// Appends the octets of the groups at the front, and gives the text that is left: all from two groups
-/// on that have another character, as padding is.
+/// Appends the octets of the groups at the front, two groups at a time, and gives the text that is
+/// left: all from two groups on that have another character, as padding is.
 pub(super) fn push_groups<'t>(text: &'t [u8], out: &mut Vec<u8>) -> Result<&'t [u8], AllocError>
     ensures { IfOk result (λ rest. HasGroups text.now rest.now out.old.items out.new.items) }
 {
     let mut rest = text;
-    while !rest.is_empty() {
-        let mut taken = ArrayVec::new();
-        let left = take_groups(rest, &mut taken);
-        if taken.is_empty() {
+    while let [a, b, c, d, e, f, g, h, after @ ..] = rest {
+        let Some((first, second, third)) = octets_of_group(*a, *b, *c, *d) else {
             return Ok(rest);
-        }
-        out.extend_from_slice(taken.as_slice())?;
-        rest = left;
+        };
+        let Some((fourth, fifth, sixth)) = octets_of_group(*e, *f, *g, *h) else {
+            return Ok(rest);
+        };
+        out.extend_from_slice(&[first, second, third, fourth, fifth, sixth])?;
+        rest = after;
     }
     Ok(rest)
 }

@@ -72,30 +72,6 @@ more_groups text rest digits after old out new octets cut six each encoded grown
   written = grown ∙ ap (λ l. l ++ octets) has.written ∙ append_assoc old has.octets octets;
 }
 
-encoded_length : (octets : List ℕ) → length (encode_of standard octets) ≡ (4 * length octets + 2) / 3 + (3 - length octets % 3) % 3
-encoded_length octets =
-    let pad : List ℕ = replicate ((3 - length octets % 3) % 3) 61 in
-    length-append (encode_symbols standard.encode_table octets) pad
-    ∙ ap (λ n. n + length pad) (length-encode_symbols standard.encode_table octets)
-    ∙ ap (λ n. (4 * length octets + 2) / 3 + n) (length-replicate ((3 - length octets % 3) % 3) 61)
-
--- groups, and those after them
-pub then_groups : (text rest after old out new few : List ℕ) → HasGroups rest after [] few → new ≡ out ++ few → HasGroups text rest old out → HasGroups text after old new
-then_groups text rest after old out new few next grown has = record {
-  octets = has.octets ++ next.octets;
-  each = each_append has.octets next.octets has.each next.each;
-  whole = omega (arith, has.whole, next.whole, length-append has.octets next.octets);
-  parted = has.parted ∙ ap (λ l. encode_of standard has.octets ++ l) next.parted ∙ sym (append_assoc (encode_of standard has.octets) (encode_of standard next.octets) after) ∙ ap (λ l. l ++ after) (sym (encode_of-append standard has.octets next.octets has.whole));
-  written = grown ∙ ap (λ l. l ++ few) has.written ∙ ap (λ l. (old ++ has.octets) ++ l) next.written ∙ append_assoc old has.octets next.octets;
-}
-
--- some octets are of some digits
-pub fewer_left : (text rest few : List ℕ) → 0 < length few → HasGroups text rest [] few → length rest < length text
-fewer_left text rest few some has =
-    let octets : length has.octets ≡ length few = ap length (sym has.written) in
-    let sizes : length text ≡ length (encode_of standard has.octets) + length rest = ap length has.parted ∙ length-append (encode_of standard has.octets) rest in
-    omega (arith, some, octets, sizes, encoded_length has.octets)
-
 -- ---- the whole text
 
 pub last_groups : (text rest old out new : List ℕ) → HasGroups text rest old out → AppendsStated (IsBase64 rest) out new → AppendsStated (IsBase64 text) old new
@@ -121,6 +97,13 @@ each_drop : (n : ℕ) (l : List ℕ) → AreOctets l → AreOctets (drop n l)
 each_drop zero l each = each
 each_drop (suc n) [] each = each
 each_drop (suc n) (o ∷ l) each = each_drop n l each.1
+
+encoded_length : (octets : List ℕ) → length (encode_of standard octets) ≡ (4 * length octets + 2) / 3 + (3 - length octets % 3) % 3
+encoded_length octets =
+    let pad : List ℕ = replicate ((3 - length octets % 3) % 3) 61 in
+    length-append (encode_symbols standard.encode_table octets) pad
+    ∙ ap (λ n. n + length pad) (length-encode_symbols standard.encode_table octets)
+    ∙ ap (λ n. (4 * length octets + 2) / 3 + n) (length-replicate ((3 - length octets % 3) % 3) 61)
 
 more_octets : (m n k l : ℕ) → n % 3 ≡ 0 → 0 < l → k ≡ (4 * n + 2) / 3 + (3 - n % 3) % 3 → k + l ≡ (4 * m + 2) / 3 + (3 - m % 3) % 3 → n ≤ m
 more_octets m n k l whole some front all = omega (arith, whole, some, front, all)

@@ -1,21 +1,15 @@
-use Rattle.type_data.proofs.Common.{ap, arith, nat_tests, subst, ◌++◌, ◌∙◌}
-use Rattle.type_data.proofs.OfKinds.Base64.Groups.{fewer_left, no_groups, then_groups}
-use Rattle.type_data.specs.Kinds.Base64.Machine.{HasGroups}
+use Rattle.type_data.proofs.Common.{[], refl, ◌∷◌}
+use Rattle.type_data.proofs.OfKinds.Base64.Groups.{eight_ahead, more_groups, no_groups, two_encoded}
 use Rattle.type_data.proofs.kinds.base64_groups.push_groups.Goals as goal
 
-pub loop-taken-init : goal.loop-taken-init
-loop-taken-init c = no_groups c.args.text.now c.args.out.now.items
+pub loop-rest-init : goal.loop-rest-init
+loop-rest-init c = no_groups c.args.text.now c.args.out.now.items
 
-pub loop-taken-preserved : goal.loop-taken-preserved
-loop-taken-preserved c =
-    let left = c.take_groups-left in
-    then_groups c.args.text.now c.loop-taken.rest.now left.result.now c.args.out.now.items c.loop-taken.out.items c.extend_from_slice.new.self.items left.new.taken.items
-    (subst (λ l. HasGroups c.loop-taken.rest.now left.result.now l left.new.taken.items) c.new-taken.ensures left.ensures)
-    (c.in_ok-extend_from_slice.ensures.items ∙ ap (λ l. c.loop-taken.out.items ++ l) c.as_slice.ensures.value) c.loop-taken.invariant
-
-pub loop-taken-smaller : goal.loop-taken-smaller
-loop-taken-smaller c =
-    let left = c.take_groups-left in
-    fewer_left c.loop-taken.rest.now left.result.now left.new.taken.items
-    (grind (arith, nat_tests, c.is_empty-in-loop-taken.ensures, c.if-is_empty.false))
-    (subst (λ l. HasGroups c.loop-taken.rest.now left.result.now l left.new.taken.items) c.new-taken.ensures left.ensures)
+pub loop-rest-preserved : goal.loop-rest-preserved
+loop-rest-preserved c =
+    let one = c.in-Some in
+    let two = c.in-Some-octets_of_group in
+    more_groups c.args.text.now c.loop-rest.rest.now _ _ c.args.out.now.items c.loop-rest.out.items c.extend_from_slice.new.self.items (one.first ∷ one.second ∷ one.third ∷ two.fourth ∷ two.fifth ∷ two.sixth ∷ []) (eight_ahead c.loop-rest.rest.now 0 c.in-len8-up.len_at_least) refl
+    (one.ensures.0.0, (one.ensures.0.1.0, (one.ensures.0.1.1.0, two.ensures.0)))
+    (two_encoded _ _ _ _ _ _ _ _ one.first one.second one.third two.fourth two.fifth two.sixth one.ensures.1 two.ensures.1)
+    c.in_ok-extend_from_slice.ensures.items c.loop-rest.invariant
