@@ -1,8 +1,11 @@
-ghost use Rattle.std.specs.Prelude.{◌≡◌, ◌∷◌, true, IfSome, IfNone, option_map};
+ghost use Rattle.std.specs.Prelude.{◌≡◌, ◌≤◌, ◌*◌, ◌∷◌, length, take, true, IfSome, IfNone, option_map};
+ghost use Rattle.std.specs.List.{flat_map};
 ghost use Rattle.zone_name.specs.Machine.Units.{digits_first, valued};
 ghost use Rattle.zone_name.specs.NextUnit.{IsNextUnit};
 ghost use Rattle.zone_name.specs.Spelling.{BeginsWithEscape, IsBadEscape, is_digit};
-ghost use Rattle.zone_name.specs.Text.{decimal_escape, is_special};
+ghost use Rattle.zone_name.specs.Text.{decimal_escape, is_special, octet_text};
+
+use crate::lanes::put;
 
 /// The written octet that a text begins with (RFC 1035 5.1).
 #[derive(Drop)]
@@ -99,4 +102,37 @@ pub(crate) fn is_special_octet(octet: u8) -> bool
         || octet == b';'
         || octet == b'@'
         || octet == b'\\'
+}
+
+/// How many octets an escape has, at most.
+pub(crate) const LONGEST_ESCAPE: usize = 4;
+
+/// Writes the spelling of octets over the first of the room, and returns how many octets it has.
+pub(crate) fn spell(room: &mut [u8], octets: &[u8]) -> usize
+    requires { 4 * length octets.now ≤ length room.old }
+    ensures room { length room.new ≡ length room.old }
+    ensures fits { result ≤ length room.new }
+    ensures text { take result room.new ≡ flat_map octet_text octets.now }
+{
+    let mut at = 0;
+    for octet in octets {
+        let (text, len) = spelled(*octet);
+        put(room, at, &text);
+        at += len;
+    }
+    at
+}
+
+/// An octet's spelling, and how many octets it has. Those after it say nothing.
+fn spelled(octet: u8) -> ([u8; LONGEST_ESCAPE], usize)
+    ensures len { result.1 ≤ 4 }
+    ensures text { take result.1 result.0 ≡ octet_text octet }
+{
+    if octet < b'!' || octet > b'~' {
+        (decimal_escape(octet), 4)
+    } else if is_special_octet(octet) {
+        ([b'\\', octet, 0, 0], 2)
+    } else {
+        ([octet, 0, 0, 0], 1)
+    }
 }

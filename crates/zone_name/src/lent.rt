@@ -1,16 +1,20 @@
-ghost use Rattle.std.specs.Prelude.{◌≡◌, ◌↔◌, [], drop, length, slice_index, EachIndex, IsTrue, OnOk, OnErr};
+ghost use Rattle.std.specs.Prelude.{◌≡◌, ◌≤◌, ◌↔◌, [], drop, length, slice_index, EachIndex, IsTrue, OnOk, OnErr};
 ghost use Rattle.zone_name.specs.Name.{labels_of, wire, BeginsWithName, HoldsName, IsName};
 ghost use Rattle.std.specs.List.{flat_map};
 ghost use Rattle.zone_name.specs.Machine.Shown.{IsShown};
 ghost use Rattle.zone_name.specs.Sink.{TakesSome};
 ghost use Rattle.zone_name.specs.Text.{label_text, name_text, octet_text};
 
-use crate::escape::{decimal_escape, is_special_octet};
+use crate::escape::{LONGEST_ESCAPE, is_special_octet, spell};
 use crate::labels::Labels;
 use crate::lanes::{LANES, ROOM};
+use crate::limits::MAX_LABEL_LEN;
 use crate::shown::spell_shown;
 use crate::sink::Sink;
 use std::marker::Model;
+
+/// The most octets of a spelling that are made at once.
+const LONGEST_PART: usize = LONGEST_ESCAPE * MAX_LABEL_LEN;
 
 /// A domain name in borrowed octets: uncompressed (RFC 1035 3.1) and in lower case. Contracts
 /// see its labels.
@@ -143,7 +147,8 @@ pub fn push_label<S: Sink>(label: &[u8], out: &mut S) -> Result<(), S::Error>
     out.push(b".")
 }
 
-/// Appends the spelling of a label's octets.
+/// Appends the spelling of a label's octets, which is made in room of fixed size, as many octets at a
+/// time as a label of a name has.
 #[tactic(auto, using(crate::proofs::Texts::Lengths::flat_map_shown))]
 fn push_octets<S: Sink>(label: &[u8], out: &mut S) -> Result<(), S::Error>
     ensures ok { OnOk result (S.takes out.old (flat_map octet_text label.now) out.new) }
@@ -152,10 +157,24 @@ fn push_octets<S: Sink>(label: &[u8], out: &mut S) -> Result<(), S::Error>
     if is_shown(label) {
         return out.push(label);
     }
-    for octet in label {
-        push_octet(*octet, out)?;
+    let mut rest = label;
+    while !rest.is_empty() {
+        let (part, after) = rest.split_at(rest.len().min(MAX_LABEL_LEN));
+        push_part(part, out)?;
+        rest = after;
     }
     Ok(())
+}
+
+/// Appends the spelling of at most 63 octets at once.
+fn push_part<S: Sink>(part: &[u8], out: &mut S) -> Result<(), S::Error>
+    requires { length part.now ≤ 63 }
+    ensures ok { OnOk result (S.takes out.old (flat_map octet_text part.now) out.new) }
+    ensures err { OnErr result (S.takes out.old [] out.new) }
+{
+    let mut room = [0; LONGEST_PART];
+    let len = spell(&mut room, part);
+    out.push(&room[..len])
 }
 
 /// Whether each octet spells itself.
@@ -175,19 +194,5 @@ fn octet_is_shown(octet: u8) -> bool
         true
     } else {
         octet >= b'!' && !is_special_octet(octet)
-    }
-}
-
-/// Appends an octet's spelling.
-fn push_octet<S: Sink>(octet: u8, out: &mut S) -> Result<(), S::Error>
-    ensures ok { OnOk result (S.takes out.old (octet_text octet) out.new) }
-    ensures err { OnErr result (S.takes out.old [] out.new) }
-{
-    if is_special_octet(octet) {
-        out.push(&[b'\\', octet])
-    } else if octet >= b'!' && octet <= b'~' {
-        out.push(&[octet])
-    } else {
-        out.push(&decimal_escape(octet))
     }
 }
