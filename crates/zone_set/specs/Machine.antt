@@ -9,3 +9,4 @@ pub mod Owner
 pub mod Octets
 pub mod Unordered
 pub mod Distinct
+pub mod Marks

@@ -3,10 +3,10 @@
 ghost use Rattle.std.specs.Prelude.{◌≡◌, ◌+◌, ℕ, IfOk, IsTrue};
 ghost use Rattle.std.specs.List.{AllByRecursion};
 ghost use Rattle.zone_name.specs.Common.{Labels};
-ghost use Rattle.zone_set.specs.Bounded.{HasDifferent};
 ghost use Rattle.zone_set.specs.Machine.Distinct as distinct;
 ghost use Rattle.zone_set.specs.Machine.Distinct.{IsSeen};
 ghost use Rattle.zone_set.specs.Machine.Held.{all_records, IsEntry};
+ghost use Rattle.zone_set.specs.Machine.Marks.{HasDifferent};
 
 use crate::entry::Entry;
 use crate::tie::span;

@@ -1,7 +1,8 @@
 ghost use Rattle.std.specs.Prelude.{◌≡◌, ◌≤◌, ◌++◌, ◌∷◌, [], true, false, IfOk, IfErr, OnOk, OnErr};
 ghost use Rattle.zone_rdata.specs.Lent.{record_of};
-ghost use Rattle.zone_set.specs.Bounded.{kept_len, IsBoundedBy, IsMark, IsWithinMark};
+ghost use Rattle.zone_set.specs.Bounded.{kept_len, IsBoundedBy};
 ghost use Rattle.zone_set.specs.Builder.{OtherClass};
+ghost use Rattle.zone_set.specs.Machine.Marks.{IsMark, IsWithinMark};
 ghost use Rattle.zone_set.specs.Refusal.{records_of};
 ghost use Rattle.zone_set.specs.ZoneList.{IsSettledAs, ListsAll, StopsListing, StopsSettling, Tells};
 
@@ -24,7 +25,7 @@ pub struct ZoneList {
 impl Model for ZoneList {
     ghost use Rattle.std.specs.Prelude.{List};
     ghost use Rattle.zone_rdata.specs.declared.record.Placed.{Placed};
-    ghost use Rattle.zone_set.specs.Bounded.{IsWithinMark};
+    ghost use Rattle.zone_set.specs.Machine.Marks.{IsWithinMark};
     ghost use Rattle.zone_set.specs.Refusal.{records_of};
 
     ghost Value = { List Placed };

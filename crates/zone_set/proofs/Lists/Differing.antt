@@ -1,6 +1,5 @@
 -- Records that differ, and how many octets they take.
 use Rattle.std.proofs.Common.{max}
-use Rattle.std.proofs.lemmas.Grind.{flat_map-append}
 use Rattle.std.specs.Prelude.{IfOk}
 use Rattle.zone_set.proofs.Common.{AllByRecursion, Bool, Entry, Err, Has, IsEntry, IsHint, IsRecord, KeepsList, List, Ok, OnErr, Place, Placed, Record, Result, [], common_steps, false, true, all_records, ap, append-nil, append_assoc, arith, drop, entry_record, flat_map, inl, inr, length, length-append, listed, map, map-append, min, records_of, refl, span, stored, subst, sym, take, take-append-drop, ℕ, ◌*◌, ◌++◌, ◌+◌, ◌-◌, ◌/◌, ◌^◌, ◌∙◌, ◌∷◌, ◌≡◌, ◌≤◌}
 use Rattle.zone_set.proofs.Hints.HintOrder.{one_hint}
@@ -8,8 +7,9 @@ use Rattle.zone_set.proofs.Lists.ListPush.{records_listed}
 use Rattle.zone_set.proofs.Lists.Looking.{each_take}
 use Rattle.zone_set.proofs.Lists.Repeats.{span_of}
 use Rattle.zone_set.proofs.Ordering.Between.{Has-append}
-use Rattle.zone_set.specs.Bounded.{AreDifferent, AreSomeOf, HasDifferent, IsBoundedBy, IsMark, IsWithinMark, kept_len}
+use Rattle.zone_set.specs.Bounded.{AreDifferent, AreSomeOf, IsBoundedBy, kept_len}
 use Rattle.zone_set.specs.Machine.Distinct.{IsSeen, number_of}
+use Rattle.zone_set.specs.Machine.Marks.{HasDifferent, IsMark, IsWithinMark}
 use Rattle.zone_set.specs.declared.distinct.Look.{Look}
 use Rattle.zone_set.specs.declared.distinct.Seen.{Seen}
 
@@ -27,9 +27,18 @@ among_more records r (s ∷ some) all = ((Has-append records (r ∷ []) s).1 (in
 mark_more : (mark : ℕ) (records : List Record) (r : Record) → IsMark mark records → IsMark mark (records ++ r ∷ [])
 mark_more mark records r m = record { some = m.some; are = record { differ = m.are.differ; among = among_more records r m.some m.are.among }; reach = m.reach }
 
+-- the octets that keep a record
+stored_len : (r : Record) → length (stored r) ≡ kept_len (r ∷ [])
+stored_len r = grind (arith, common_steps, length-append)
+
+kept_stored : (records : List Record) → length (flat_map stored records) ≡ kept_len records
+kept_stored [] = refl
+kept_stored (r ∷ records) = omega (arith, length-append (stored r) (flat_map stored records), stored_len r, kept_stored records)
+
 -- a record takes its own octets more
 kept_more : (records : List Record) (r : Record) → kept_len (records ++ r ∷ []) ≡ kept_len records + length (stored r)
-kept_more records r = ap length (flat_map-append stored records (r ∷ [])) ∙ length-append (flat_map stored records) (flat_map stored (r ∷ [])) ∙ ap (λ n. kept_len records + n) (ap length (append-nil (stored r)))
+kept_more [] r = omega (arith, stored_len r)
+kept_more (s ∷ records) r = omega (arith, kept_more records r)
 
 all_among : (before records : List Record) → AllByRecursion (Has (before ++ records)) records
 all_among before [] = tt
@@ -98,7 +107,7 @@ module _ (base : List (List ℕ)) (class : ℕ) (octets : List ℕ) (entries : L
       differ = (λ has. fresh (subst (IsSeen seen) (sym number) (seen_equal had.some had.known has)), had.are.differ);
       among = (had.among Own (inl refl), had.are.among);
     };
-    reach = omega (arith, counts, had.reach, length-append (stored Own) (flat_map stored had.some), ap length (is_own ∙ spans));
+    reach = omega (arith, counts, had.reach, stored_len Own, ap length (is_own ∙ spans));
     known = ((e.hint, had.each.0.hinted, subst (IsSeen after) (number ∙ ap (number_of look e.hint) spans) now), stay_each had.some had.known);
     each = had.each.1;
     among = λ r has. had.among r (inr has);
@@ -124,7 +133,7 @@ HasDifferent-front records others least has = record { some = has.some; are = re
 module _ {class : ℕ} {base : List (List ℕ)} {octets : List ℕ} {es : List Entry} {ps : List Place} (keeps : KeepsList class base octets es ps) where
   -- its octets keep it
   pub kept_octets : length octets ≡ kept_len (records_of (listed class octets es ps))
-  kept_octets = ap length keeps.kept.kept ∙ ap kept_len (sym (records_listed keeps))
+  kept_octets = ap length keeps.kept.kept ∙ kept_stored (all_records class octets es) ∙ ap kept_len (sym (records_listed keeps))
 
   -- different ones among some first entries
   front_different : (n least : ℕ) (first : List Entry) → first ≡ take n es → HasDifferent (all_records class octets first) least → HasDifferent (records_of (listed class octets es ps)) least

@@ -1,6 +1,7 @@
 use Rattle.zone_set.proofs.Common.{ap, arith, length, records_of, refl, subst, ◌∙◌, ◌≡◌}
 use Rattle.zone_set.proofs.Lists.Differing.{kept_octets, mark_of_quick, mark_of_whole}
-use Rattle.zone_set.specs.Bounded.{IsMark, kept_len}
+use Rattle.zone_set.specs.Bounded.{kept_len}
+use Rattle.zone_set.specs.Machine.Marks.{IsMark}
 use Rattle.zone_set.proofs.kept_list.KeptList.next_mark.Goals as goal
 
 pub returns-then-quick-clause-marked : goal.returns-then-quick-clause-marked
