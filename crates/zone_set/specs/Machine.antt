@@ -8,3 +8,5 @@ pub mod Places
 pub mod Owner
 pub mod Octets
 pub mod Unordered
+pub mod Distinct
+pub mod Marks

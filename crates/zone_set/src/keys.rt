@@ -3,10 +3,10 @@ ghost use Rattle.std.specs.List.Sorted.{IsPermutation};
 ghost use Rattle.zone_set.specs.Machine.Bulk.{with_hint};
 
 use crate::ahead::{AHEAD, ask_run};
+use crate::distinct::digest;
 use crate::entry::Entry;
 use crate::hint::first_untold;
 use crate::owner::{first_label, owner_order, past_far, shared_end};
-use crate::repeats::digest;
 use crate::tie::{StoredParts, span, stored_at, tie_order};
 use std::cmp::Ordering;
 

@@ -6,8 +6,10 @@
 mod ahead;
 mod builder;
 mod bulk;
+mod distinct;
 mod entry;
 mod hint;
+mod kept_list;
 mod kept_records;
 mod keys;
 mod list;

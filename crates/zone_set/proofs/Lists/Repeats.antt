@@ -11,7 +11,7 @@ pub span_len-stored : (r : Record) (after : List ℕ) → IsRecord r → span_le
 span_len-stored r after whole = grind (arith, common_steps, append_assoc, from_be_bytes-to_be_bytes_2, take_at, length-append)
 
 -- what keeps a linked entry's record is its span
-span_of : (class : ℕ) (octets : List ℕ) (e : Entry) → IsLinked class octets e → span octets e.at ≡ stored (entry_record class octets e)
+pub span_of : (class : ℕ) (octets : List ℕ) (e : Entry) → IsLinked class octets e → span octets e.at ≡ stored (entry_record class octets e)
 span_of class octets e linked =
     let r = entry_record class octets e in
     ap (λ l. take (span_len l) l) linked.stands.1

@@ -9,7 +9,7 @@ module _ {class : ℕ} {octets : List ℕ} (r : Record) (rest : List ℕ) (whole
   read : record_from class octets 0 ≡ r
   read = ap (λ k. read_record k octets) (sym class_of) ∙ ap (read_record r.class) kept ∙ read_stored r rest whole
 
-  spanned : length (span octets 0) ≡ length (stored r)
+  pub spanned : length (span octets 0) ≡ length (stored r)
   spanned = grind (arith, kept, span_len-stored r rest whole, take_at (stored r) rest (length (stored r)) refl)
 
 -- the first of those that are kept, if octets are left, and those after it

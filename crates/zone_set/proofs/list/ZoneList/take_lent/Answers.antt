@@ -6,13 +6,14 @@ use Rattle.zone_set.specs.ZoneList.{Tells}
 use Rattle.zone_set.proofs.list.ZoneList.take_lent.Goals as goal
 
 pub loop-placed-init : goal.loop-placed-init
-loop-placed-init g c = (HasTaken-start _ _ (subst (λ ps. Tells ps c.args.self.now) (sym (append-nil _)) (Tells-itself _)), refl)
+loop-placed-init g c = (HasTaken-start _ _ (subst (λ ps. Tells ps c.args.self.now) (sym (append-nil _)) (Tells-itself _)), refl, c.known.ensures)
 
 pub loop-placed-preserved : goal.loop-placed-preserved
 loop-placed-preserved g c = (
   HasTaken-more _ _ _ c.loop-placed.invariant.0 _ (placed_of c.in-Some.placed) _ (lent_first _ _ (ap (option_map placed_of) (sym c.in-Some.is) ∙ c.first.ensures)) c.skip.ensures.left
       (λ taken is. listed_push _ _ _ taken (placed_of c.in-Some.placed) is (c.in_ok-listed.ensures.taken c.if-not-branch.false)),
   c.skip.ensures.beside ∙ c.loop-placed.invariant.1,
+  c.take-listed.ensures.bounded,
 )
 
 pub returns-in_err-listed-clause-stopped : goal.returns-in_err-listed-clause-stopped
