@@ -1,8 +1,14 @@
+mod Alike
+mod Gathering
 mod HaveChanges
+mod Keys
+mod LackingRecords
+mod Looking
 mod Merged
 mod OneDifference
 mod OneList
 mod Rrsets
 mod Steps
+mod Taking
 mod Without
 mod Written

@@ -1,10 +1,11 @@
 -- The changes by which ascending records go and come.
-use Rattle.zone_set.proofs.Common.{◌≡◌, Equal, Greater, Less, Ordering, List, [], ◌∷◌, ◌+◌, ◌≤◌, ℕ, suc, zero, length, refl, sym, ap, ◌∙◌, subst, inl, inr, arith, AllByRecursion, Has, Record}
+use Rattle.zone_set.proofs.Common.{◌≡◌, ◌≢◌, Equal, Greater, Less, Ordering, List, [], ◌∷◌, ◌+◌, ◌≤◌, ℕ, suc, zero, length, refl, sym, ap, ◌∙◌, subst, inl, inr, arith, AllByRecursion, Has, Record}
 use Rattle.zone_set.proofs.Holding.Together.{each_Has}
 use Rattle.zone_set.specs.Order.{Ascends, canonical_cmp}
 use Rattle.zone_difference.proofs.Rrsets.{addition_before, removal_before, removal_goes, rrset_cmp, turned_goes}
 use Rattle.zone_difference.specs.Difference.{AreChanges, AreInOrder, Change, GoesBefore, IsDifference, addition, added_of, removal, removed_of}
 use Rattle.zone_difference.specs.Walk.{IsFirstOf, OnFirst}
+use Rattle.zone_difference.specs.declared.name_case.NameCase.{NameCase}
 
 -- by these changes, in order, these records go and these come
 pub record AreMerged (gone come : List Record) (changes : List Change) : Type 0 where
@@ -87,8 +88,8 @@ pub have_merged : (gone come : List Record) → Ascends gone → Ascends come �
 have_merged gone come up up_come = within (length gone + length come) gone come (omega arith) up up_come
 
 -- they are the changes of two lists of records
-pub merged_changes : (records others gone come : List Record) (changes : List Change) → IsDifference records others gone come → AreMerged gone come changes → AreChanges records others changes
-merged_changes records others gone come changes d merged = record {
-  difference = subst (λ l. IsDifference records others l (added_of changes)) (sym merged.removed) (subst (λ l. IsDifference records others gone l) (sym merged.added) d);
+pub merged_changes : (case : NameCase) (records others gone come : List Record) (changes : List Change) → IsDifference case records others gone come → AreMerged gone come changes → AreChanges case records others changes
+merged_changes case records others gone come changes d merged = record {
+  difference = subst (λ l. IsDifference case records others l (added_of changes)) (sym merged.removed) (subst (λ l. IsDifference case records others gone l) (sym merged.added) d);
   order = merged.order;
 }

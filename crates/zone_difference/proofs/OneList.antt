@@ -5,15 +5,17 @@ use Rattle.zone_set.specs.Zone.{Zone}
 use Rattle.zone_difference.proofs.OneDifference.{none_if_one, one_difference}
 use Rattle.zone_difference.proofs.Rrsets.{never_both}
 use Rattle.zone_difference.specs.Difference.{AreChanges, AreInOrder, Change, GoesBefore, addition, added_of, removal, removed_of}
+use Rattle.zone_difference.specs.declared.name_case.NameCase.{NameCase}
+use Rattle.zone_difference.specs.declared.name_case.NameCase.TheVariants.{Exact}
 
 -- ---- no changes
 
-no_changes : (changes : List Change) → removed_of changes ≡ [] → added_of changes ≡ [] → changes ≡ []
+pub no_changes : (changes : List Change) → removed_of changes ≡ [] → added_of changes ≡ [] → changes ≡ []
 no_changes [] gone come = refl
 no_changes (removal r ∷ changes) gone come = absurd cc
 no_changes (addition r ∷ changes) gone come = absurd cc
 
-pub none_of_one_zone : (z w : Zone) (changes : List Change) → IsZone z → IsZone w → AreChanges z.records w.records changes → (changes ≡ []) ↔ (z ≡ w)
+pub none_of_one_zone : (z w : Zone) (changes : List Change) → IsZone z → IsZone w → AreChanges Exact z.records w.records changes → (changes ≡ []) ↔ (z ≡ w)
 none_of_one_zone z w changes is too are =
     let both = none_if_one z w (removed_of changes) (added_of changes) is too are.difference in (
       λ none. both.0 (ap removed_of none, ap added_of none),
@@ -22,9 +24,9 @@ none_of_one_zone z w changes is too are =
 
 -- ---- the other way
 
-pub other_way : (records others : List Record) (changes back : List Change) → AreChanges records others changes → AreChanges others records back → (removed_of back ≡ added_of changes) × (added_of back ≡ removed_of changes)
-other_way records others changes back are again =
-    one_difference others records (removed_of back) (added_of back) (added_of changes) (removed_of changes) again.difference (record { gone = are.difference.come; come = are.difference.gone })
+pub other_way : (case : NameCase) (records others : List Record) (changes back : List Change) → AreChanges case records others changes → AreChanges case others records back → (removed_of back ≡ added_of changes) × (added_of back ≡ removed_of changes)
+other_way case records others changes back are again =
+    one_difference case others records (removed_of back) (added_of back) (added_of changes) (removed_of changes) again.difference (record { gone = are.difference.come; come = are.difference.gone })
 
 -- ---- one list
 
@@ -65,7 +67,7 @@ one_list (addition r ∷ a) (addition s ∷ b) gone come up too =
 one_list (removal r ∷ a) (addition s ∷ b) gone come up too = absurd (parted r s a b gone come up.0 too.0)
 one_list (addition r ∷ a) (removal s ∷ b) gone come up too = absurd (parted s r b a (sym gone) (sym come) too.0 up.0)
 
-pub one_changes : (records others : List Record) (changes more : List Change) → AreChanges records others changes → AreChanges records others more → changes ≡ more
-one_changes records others changes more are too =
-    let same = one_difference records others (removed_of changes) (added_of changes) (removed_of more) (added_of more) are.difference too.difference in
+pub one_changes : (case : NameCase) (records others : List Record) (changes more : List Change) → AreChanges case records others changes → AreChanges case records others more → changes ≡ more
+one_changes case records others changes more are too =
+    let same = one_difference case records others (removed_of changes) (added_of changes) (removed_of more) (added_of more) are.difference too.difference in
     one_list changes more same.0 same.1 are.order too.order

@@ -1,5 +1,5 @@
 -- Changes in order: by RRset, and in each the removals before the additions.
-use Rattle.zone_set.proofs.Common.{◌≡◌, ◌≢◌, Equal, Greater, Less, Ordering, List, [], ◌∷◌, ℕ, refl, sym, ap, ◌∙◌, subst, inl, inr, IsTotalOrder, nat_cmp, nat_cmp_total, exact_unsigned, name_cmp, name_cmp-exact, name_cmp-total, on, on_total, then_cmp, then_total, then_assoc, ordering_reverse, ordering_then, slice_cmp, tied_itself, Has, Record, soa_rank}
+use Rattle.zone_set.proofs.Common.{◌≡◌, ◌≢◌, Equal, Greater, Less, Ordering, List, [], ◌∷◌, ℕ, refl, sym, ap, ◌∙◌, subst, inl, inr, ◌⊎◌, IsTotalOrder, nat_cmp, nat_cmp_total, exact_unsigned, name_cmp, name_cmp-exact, name_cmp-total, on, on_total, then_cmp, then_total, then_assoc, ordering_reverse, ordering_then, slice_cmp, tied_itself, Has, Record, soa_rank}
 use Rattle.std.proofs.lemmas.Cmp.{alike_right}
 use Rattle.zone_name.specs.Common.{Labels}
 use Rattle.zone_set.proofs.Holding.Together.{each_Has}
@@ -98,6 +98,21 @@ other_goes r s never = by (rrset_cmp r s) refl
     by Less e = absurd (never (removal_by r s Less e (λ bad. cc bad)))
     by Equal e = absurd (never (removal_by r s Equal e (λ bad. cc bad)))
     by Greater e = turned_goes r s e
+
+-- what lies between records of an RRset is of it
+at_or_before : (r s : Record) → ((canonical_cmp r s ≡ Less) ⊎ AreOfOneRrset r s) → rrset_cmp r s ≢ Greater
+at_or_before r s goes = removal_went r s goes
+
+between : (a b c : Record) (o : Ordering) → rrset_cmp a b ≡ o → o ≢ Greater → rrset_cmp b c ≢ Greater → AreOfOneRrset a c → AreOfOneRrset a b
+between a b c Equal e never then one = one_set a b e
+between a b c Less e never then one = absurd (let bad : Less ≡ Equal = sym (still_less a b c (rrset_cmp b c) refl then e) ∙ set_tied a c one in cc)
+between a b c Greater e never then one = absurd (never refl)
+
+pub squeezed : (a b c : Record) → ((canonical_cmp a b ≡ Less) ⊎ AreOfOneRrset a b) → ((canonical_cmp b c ≡ Less) ⊎ AreOfOneRrset b c) → AreOfOneRrset a c → AreOfOneRrset a b
+squeezed a b c first next one = between a b c (rrset_cmp a b) refl (at_or_before a b first) (at_or_before b c next) one
+
+pub still_at_most : (h r q : Record) → AreOfOneRrset h r → canonical_cmp r q ≡ Less → rrset_cmp h q ≢ Greater
+still_at_most h r q one less = at_most h r q (rrset_cmp h r) refl (at_or_before h r (inr one)) (set_of_less r q less)
 
 -- ---- what goes before the first of ascending records goes before all of them
 

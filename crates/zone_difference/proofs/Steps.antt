@@ -1,5 +1,5 @@
 -- The steps of a walk over the records of two zones.
-use Rattle.zone_set.proofs.Common.{◌≡◌, ◌≢◌, Equal, Greater, Less, List, ◌∷◌, ◌↔◌, sym, ap, ◌∙◌, subst, inl, inr, ⊎_elim, AllByRecursion, ordering_reverse, tied_itself, Has, IsZone, Record}
+use Rattle.zone_set.proofs.Common.{◌≡◌, ◌≢◌, Equal, Greater, Less, List, [], ◌∷◌, ℕ, IsTrue, ◌↔◌, refl, sym, ap, ◌∙◌, subst, inl, inr, ⊎_elim, AllByRecursion, ordering_reverse, tied_itself, Has, IsZone, Record}
 use Rattle.zone_set.proofs.Holding.Together.{each_Has}
 use Rattle.zone_set.proofs.Ordering.SetOrder.{canonical_total}
 use Rattle.zone_set.specs.Order.{Ascends, canonical_cmp}
@@ -49,11 +49,9 @@ module _ (r : Record) (records others others' only : List Record) (before : Befo
   record_found none (inl (is, more)) = absurd (none is)
   record_found none (inr (also, (after, is, more))) = (after, is, alike (Has others) (Has others') records after same_after more)
 
--- all records of two zones of one class
-pub sides_of_zones : (z w : Zone) (left right : List Record) → IsZone z → IsZone w → z.class ≡ w.class → left ≡ z.records → right ≡ w.records → AreSides z.class left right
-sides_of_zones z w left right is too class same same' = record {
+-- all records of two zones
+pub sides_of_zones : (z w : Zone) (left right : List Record) → IsZone z → IsZone w → left ≡ z.records → right ≡ w.records → AreSides left right
+sides_of_zones z w left right is too same same' = record {
   up = subst Ascends (sym same) is.compatible.ascend;
   up_others = subst Ascends (sym same') too.compatible.ascend;
-  of_class = subst (AllByRecursion (λ (r : Record). r.class ≡ z.class)) (sym same) is.class;
-  others_of_class = subst (AllByRecursion (λ (r : Record). r.class ≡ z.class)) (sym same') (subst (λ n. AllByRecursion (λ (r : Record). r.class ≡ n) w.records) (sym class) too.class);
 }

@@ -1,9 +1,10 @@
 -- The records of one list that the other lacks, found in their order.
-use Rattle.zone_set.proofs.Common.{◌≡◌, Less, List, [], ◌∷◌, ◌↔◌, refl, sym, subst, inl, inr, ⊎_elim, ◌⊎◌, Has, Record}
+use Rattle.zone_set.proofs.Common.{◌≡◌, Less, List, [], ◌∷◌, ◌↔◌, refl, sym, subst, inl, inr, ⊎_elim, ◌⊎◌, AllByRecursion, Has, Record}
 use Rattle.zone_set.proofs.Holding.Together.{each_Has, each_from_Has}
 use Rattle.zone_set.specs.Order.{Ascends, canonical_cmp}
 use Rattle.zone_difference.proofs.OneDifference.{has_or_not}
-use Rattle.zone_difference.specs.Difference.{AreOnlyIn, IsDifference}
+use Rattle.zone_difference.specs.Difference.{AreOnlyIn, HasEqual, IsDifference}
+use Rattle.zone_difference.specs.declared.name_case.NameCase.{NameCase}
 use Rattle.zone_difference.specs.Walk.{AreWithout}
 
 -- ---- such records are found
@@ -12,9 +13,9 @@ found_more : (P : Record → Type 0) (r : Record) (records : List Record) → (P
 found_more P r records (inl is) rest = (rest.0, inl (is, rest.1))
 found_more P r records (inr none) rest = (r ∷ rest.0, inr (none, (rest.0, refl, rest.1)))
 
-pub found : (P : Record → Type 0) → ((r : Record) → P r ⊎ (P r → ⊥)) → (records : List Record) → (only : List Record) × AreWithout P records only
-found P decides [] = ([], refl)
-found P decides (r ∷ records) = found_more P r records (decides r) (found P decides records)
+pub found : (P : Record → Type 0) (records : List Record) → ((r : Record) → Has records r → P r ⊎ (P r → ⊥)) → (only : List Record) × AreWithout P records only
+found P [] decides = ([], refl)
+found P (r ∷ records) decides = found_more P r records (decides r (inl refl)) (found P records (λ s has. decides s (inr has)))
 
 -- ---- what they are
 
@@ -49,25 +50,27 @@ alike P Q [] only same none = none
 alike P Q (r ∷ records) only same (inl (is, more)) = inl ((same r (inl refl)).0 is, alike P Q records only (λ t has. same t (inr has)) more)
 alike P Q (r ∷ records) only same (inr (not_it, (rest, is, more))) = inr (λ has. not_it ((same r (inl refl)).1 has), (rest, is, alike P Q records rest (λ t has. same t (inr has)) more))
 
-pub only_in : (records others only : List Record) → AreWithout (Has others) records only → Ascends records → AreOnlyIn records others only
-only_in records others only are up = record {
-  ascend = ascend (Has others) records only are up;
-  are = λ t. (among (Has others) records only are t, λ both. all_found (Has others) records only are t both.0 both.1);
+pub only_in : (case : NameCase) (records others only : List Record) → AreWithout (HasEqual case others) records only → Ascends records → AreOnlyIn case records others only
+only_in case records others only are up = record {
+  ascend = ascend (HasEqual case others) records only are up;
+  are = λ t. (among (HasEqual case others) records only are t, λ both. all_found (HasEqual case others) records only are t both.0 both.1);
 }
 
 pub found_only : (records others : List Record) → (only : List Record) × AreWithout (Has others) records only
-found_only records others = found (Has others) (λ r. has_or_not others r) records
+found_only records others = found (Has others) records (λ r has. has_or_not others r)
 
-pub difference : (records others gone come : List Record) → AreWithout (Has others) records gone → AreWithout (Has records) others come → Ascends records → Ascends others → IsDifference records others gone come
-difference records others gone come are too up up_others = record {
-  gone = only_in records others gone are up;
-  come = only_in others records come too up_others;
+pub difference : (case : NameCase) (records others gone come : List Record) → AreWithout (HasEqual case others) records gone → AreWithout (HasEqual case records) others come → Ascends records → Ascends others → IsDifference case records others gone come
+difference case records others gone come are too up up_others = record {
+  gone = only_in case records others gone are up;
+  come = only_in case others records come too up_others;
 }
 
--- the same of lists that are these
-pub difference_of : (records others left right left' right' gone come : List Record) → left ≡ records → right ≡ others → left' ≡ others → right' ≡ records → AreWithout (Has right) left gone → AreWithout (Has right') left' come → Ascends left → Ascends left' → IsDifference records others gone come
-difference_of records others left right left' right' gone come a b c d are too up up_others =
-    difference records others gone come
-    (subst (λ l. AreWithout (Has others) l gone) a (subst (λ o. AreWithout (Has o) left gone) b are))
-    (subst (λ l. AreWithout (Has records) l come) c (subst (λ o. AreWithout (Has o) left' come) d too))
-    (subst Ascends a up) (subst Ascends c up_others)
+-- ---- one step
+
+pub one_without : (P : Record → Type 0) (r : Record) (records only : List Record) → P r → AreWithout P (r ∷ records) only → AreWithout P records only
+one_without P r records only is (inl (also, more)) = more
+one_without P r records only is (inr (none, more)) = absurd (none is)
+
+pub one_with : (P : Record → Type 0) (r : Record) (records only : List Record) → (P r → ⊥) → AreWithout P (r ∷ records) only → (rest : List Record) × (only ≡ r ∷ rest) × AreWithout P records rest
+one_with P r records only none (inl (is, more)) = absurd (none is)
+one_with P r records only none (inr (also, (rest, is, more))) = (rest, is, more)

@@ -1,37 +1,60 @@
 -- What is written of the changes of two zones.
-use Rattle.zone_set.proofs.Common.{◌≡◌, List, [], ◌∷◌, ◌++◌, sym, ap, ◌∙◌, append_assoc, subst, Record, ℕ}
+use Rattle.zone_set.proofs.Common.{◌≡◌, List, [], ◌∷◌, ◌++◌, refl, sym, ap, ◌∙◌, append_assoc, subst, Record, ℕ}
 use Rattle.std.proofs.KnownBytes.{Appends-nil}
 use Rattle.std.specs.Io.KnownBytes.{Appends}
 use Rattle.std.specs.Prelude.{◌≢◌, Option}
 use Rattle.zone_print.proofs.Front.{Left, left_less, left_none, part_left, part_more}
 use Rattle.zone_print.specs.Writing.{AppendsPart}
 use Rattle.zone_set.specs.Order.{Ascends}
-use Rattle.zone_difference.proofs.Merged.{AreMerged, come_up, first_and, gone_up, have_merged, merged_changes}
+use Rattle.zone_difference.proofs.Merged.{AreMerged, come_up, first_and, gone_up, have_merged, merged_changes, none_merged}
 use Rattle.zone_difference.specs.Difference.{AreChanges, Change, IsDifference, addition, removal}
 use Rattle.zone_difference.specs.Text.{WritesChanges, WritesPart, change_line, changes_text}
-use Rattle.zone_difference.specs.Walk.{AreLeft, TakesFirst}
+use Rattle.zone_difference.specs.Left.{AreLeft, TakesFirst}
+use Rattle.zone_difference.specs.declared.name_case.NameCase.{NameCase}
+use Rattle.zone_difference.specs.declared.name_case.NameCase.TheVariants.{Exact, Folded}
 use Rattle.zone_difference.specs.declared.changes.Changes.{Changes}
 
 -- of the text of all changes the writer has still to take the lines that are gathered, and then
 -- those of the changes to come
-pub record ToWrite (records others : List Record) (left : Changes) (old now : Option (List ℕ))
-    (lines : List ℕ) : Type 0 where
-  pub class : ℕ
+pub record ToWrite (case : NameCase) (records others : List Record) (left : Changes)
+    (old now : Option (List ℕ)) (lines : List ℕ) : Type 0 where
   pub gone : List Record
   pub come : List Record
-  pub left_are : AreLeft class left gone come
+  pub left_are : AreLeft case records others left gone come
   pub up : Ascends gone
   pub come_up : Ascends come
   pub ends : (more : List Change) → AreMerged gone come more
-      → (all : List Change) × AreChanges records others all
+      → (all : List Change) × AreChanges case records others all
       × Left old now (changes_text all) (lines ++ changes_text more)
 
-module _ (records others : List Record) (left : Changes) (old now : Option (List ℕ)) (lines : List ℕ) where
+part_of : (case : NameCase) (records others : List Record) (old new : Option (List ℕ)) (changes : List Change) → AreChanges case records others changes → AppendsPart old new (changes_text changes) → WritesPart case records others old new
+part_of case records others old new changes are (front, rest, some, split, written) = record {
+  changes = changes;
+  are = are;
+  front = front;
+  rest = rest;
+  split = split;
+  proper = λ exact. some;
+  written = written;
+}
+
+-- nothing was written before memory was refused, which it isn't where names are compared octet by octet
+pub not_begun : (case : NameCase) (records others : List Record) (old : Option (List ℕ)) (changes : List Change) → AreChanges case records others changes → case ≡ Folded → WritesPart case records others old old
+not_begun case records others old changes are folded = record {
+  changes = changes;
+  are = are;
+  front = [];
+  rest = changes_text changes;
+  split = refl;
+  proper = λ exact. absurd (let bad : Exact ≡ Folded = sym exact ∙ folded in cc);
+  written = Appends-nil old;
+}
+
+module _ (case : NameCase) (records others : List Record) (left : Changes) (old now : Option (List ℕ)) (lines : List ℕ) where
   -- a change is taken, and its line is gathered
-  pub gathered : (left' : Changes) (lines' : List ℕ) (c : Change) (w : ToWrite records others left old now lines) → TakesFirst w.class c left' w.gone w.come
-      → lines' ≡ lines ++ change_line c → ToWrite records others left' old now lines'
+  pub gathered : (left' : Changes) (lines' : List ℕ) (c : Change) (w : ToWrite case records others left old now lines) → TakesFirst case records others c left' w.gone w.come
+      → lines' ≡ lines ++ change_line c → ToWrite case records others left' old now lines'
   gathered left' lines' c w t is = record {
-    class = w.class;
     gone = t.gone_after;
     come = t.come_after;
     left_are = t.left;
@@ -42,9 +65,8 @@ module _ (records others : List Record) (left : Changes) (old now : Option (List
   }
 
   -- the lines are written
-  pub taken : (new : Option (List ℕ)) (part : List ℕ) → ToWrite records others left old now lines → part ≡ lines → Appends now new part → ToWrite records others left old new []
+  pub taken : (new : Option (List ℕ)) (part : List ℕ) → ToWrite case records others left old now lines → part ≡ lines → Appends now new part → ToWrite case records others left old new []
   taken new part w same written = record {
-    class = w.class;
     gone = w.gone;
     come = w.come;
     left_are = w.left_are;
@@ -55,37 +77,44 @@ module _ (records others : List Record) (left : Changes) (old now : Option (List
   }
 
   -- a part of them is
-  pub stopped : (new : Option (List ℕ)) (part : List ℕ) → ToWrite records others left old now lines → part ≡ lines → AppendsPart now new part → WritesPart records others old new
+  pub stopped : (new : Option (List ℕ)) (part : List ℕ) → ToWrite case records others left old now lines → part ≡ lines → AppendsPart now new part → WritesPart case records others old new
   stopped new part w same written =
       let found = have_merged w.gone w.come w.up w.come_up in
       let (all, of_all, left_is) = w.ends found.0 found.1 in
-      record {
-        changes = all;
-        are = of_all;
-        part = part_more old now new (changes_text all) (lines ++ changes_text found.0) part (changes_text found.0) left_is (ap (λ t. t ++ changes_text found.0) (sym same)) written;
-      }
+      part_of case records others old new all of_all (part_more old now new (changes_text all) (lines ++ changes_text found.0) part (changes_text found.0) left_is (ap (λ t. t ++ changes_text found.0) (sym same)) written)
 
   -- nothing is, and a change is to come
-  pub refused : (left' : Changes) (c : Change) (w : ToWrite records others left old now lines) → TakesFirst w.class c left' w.gone w.come → WritesPart records others old now
+  pub refused : (left' : Changes) (c : Change) (w : ToWrite case records others left old now lines) → TakesFirst case records others c left' w.gone w.come → WritesPart case records others old now
   refused left' c w t =
       let found = have_merged t.gone_after t.come_after (gone_up c w.gone w.come t.gone_after t.come_after w.up t.first) (come_up c w.gone w.come t.gone_after t.come_after w.come_up t.first) in
       let (all, of_all, left_is) = w.ends (c ∷ found.0) (first_and c w.gone w.come t.gone_after t.come_after found.0 w.up w.come_up t.first found.1) in
-      record {
-        changes = all;
-        are = of_all;
-        part = part_left old now (changes_text all) (lines ++ changes_text (c ∷ found.0)) left_is (some_lines lines c (changes_text found.0));
-      }
+      part_of case records others old now all of_all (part_left old now (changes_text all) (lines ++ changes_text (c ∷ found.0)) left_is (some_lines lines c (changes_text found.0)))
     where
       some_lines : (front : List ℕ) (d : Change) (rest : List ℕ) → front ++ (change_line d ++ rest) ≢ []
       some_lines [] (removal r) rest e = cc
       some_lines [] (addition r) rest e = cc
       some_lines (x ∷ front) d rest e = cc
 
-  none_left : (w : ToWrite records others left old now lines) → (w.gone ≡ []) × (w.come ≡ []) → AreMerged w.gone w.come []
+  -- memory is refused for the next change
+  pub interrupted : (w : ToWrite case records others left old now lines) → case ≡ Folded → WritesPart case records others old now
+  interrupted w folded =
+      let found = have_merged w.gone w.come w.up w.come_up in
+      let (all, of_all, left_is) = w.ends found.0 found.1 in
+      record {
+        changes = all;
+        are = of_all;
+        front = left_is.front;
+        rest = lines ++ changes_text found.0;
+        split = left_is.split;
+        proper = λ exact. absurd (let bad : Exact ≡ Folded = sym exact ∙ folded in cc);
+        written = left_is.taken;
+      }
+
+  none_left : (w : ToWrite case records others left old now lines) → (w.gone ≡ []) × (w.come ≡ []) → AreMerged w.gone w.come []
   none_left w (gone, come) = record { removed = sym gone; added = sym come; order = tt }
 
   -- all of them are, and no change is to come
-  pub ended : (new : Option (List ℕ)) (part : List ℕ) (w : ToWrite records others left old now lines) → (w.gone ≡ []) × (w.come ≡ []) → part ≡ lines → Appends now new part → WritesChanges records others old new
+  pub ended : (new : Option (List ℕ)) (part : List ℕ) (w : ToWrite case records others left old now lines) → (w.gone ≡ []) × (w.come ≡ []) → part ≡ lines → Appends now new part → WritesChanges case records others old new
   ended new part w none same written =
       let (all, of_all, left_is) = w.ends [] (none_left w none) in
       record {
@@ -94,19 +123,14 @@ module _ (records others : List Record) (left : Changes) (old now : Option (List
         written = left_none old now new (changes_text all) (lines ++ []) part left_is (ap (λ t. t ++ []) (sym same)) written;
       }
 
-  pub ended_part : (new : Option (List ℕ)) (part : List ℕ) (w : ToWrite records others left old now lines) → (w.gone ≡ []) × (w.come ≡ []) → part ≡ lines → AppendsPart now new part → WritesPart records others old new
+  pub ended_part : (new : Option (List ℕ)) (part : List ℕ) (w : ToWrite case records others left old now lines) → (w.gone ≡ []) × (w.come ≡ []) → part ≡ lines → AppendsPart now new part → WritesPart case records others old new
   ended_part new part w none same written =
       let (all, of_all, left_is) = w.ends [] (none_left w none) in
-      record {
-        changes = all;
-        are = of_all;
-        part = part_more old now new (changes_text all) (lines ++ []) part [] left_is (ap (λ t. t ++ []) (sym same)) written;
-      }
+      part_of case records others old new all of_all (part_more old now new (changes_text all) (lines ++ []) part [] left_is (ap (λ t. t ++ []) (sym same)) written)
 
 -- nothing is written yet
-pub begins : (records others : List Record) (left : Changes) (old : Option (List ℕ)) (lines : List ℕ) (class : ℕ) (gone come : List Record) → AreLeft class left gone come → IsDifference records others gone come → lines ≡ [] → ToWrite records others left old old lines
-begins records others left old lines class gone come left_are d none = record {
-  class = class;
+pub begins : (case : NameCase) (records others : List Record) (left : Changes) (old : Option (List ℕ)) (lines : List ℕ) (gone come : List Record) → AreLeft case records others left gone come → IsDifference case records others gone come → lines ≡ [] → ToWrite case records others left old old lines
+begins case records others left old lines gone come left_are d none = record {
   gone = gone;
   come = come;
   left_are = left_are;
@@ -114,7 +138,7 @@ begins records others left old lines class gone come left_are d none = record {
   come_up = d.come.ascend;
   ends = λ more merged. (
     more,
-    merged_changes records others gone come more d merged,
+    merged_changes case records others gone come more d merged,
     record { front = []; split = sym (ap (λ t. t ++ changes_text more) none); taken = Appends-nil old },
   );
 }

@@ -1,13 +1,19 @@
-ghost use Rattle.std.specs.Prelude.{◌≡◌, ◌<◌, ◌≤◌, ◌↔◌, ℕ, List, [], length, IfSome, IsTrue, MatchOption};
-ghost use Rattle.zone_difference.specs.Difference.{GoesBefore, IsDifference, addition, removal};
-ghost use Rattle.zone_difference.specs.Walk.{AreLeft, TakesFirst, change_of, left_len};
+ghost use Rattle.std.specs.Prelude.{◌≡◌, ◌<◌, ◌↔◌, List, IfOk, IfSome, IsTrue, OnErr};
+ghost use Rattle.zone_difference.specs.Difference.{AreChanges, Change, GoesBefore, IsDifference, addition, removal};
+ghost use Rattle.zone_difference.specs.Left.{AreLeft, FailsFolded, HasLeft, IsRemovalFirst, TakesNext, left_len};
+ghost use Rattle.zone_difference.specs.declared.name_case.NameCase.{NameCase};
+ghost use Rattle.zone_difference.specs.declared.name_case.NameCase.TheVariants.{Folded};
 ghost use Rattle.zone_rdata.specs.Lent.{record_of};
 ghost use Rattle.zone_rdata.specs.Record.{Record};
 
-use crate::only_in::OnlyIn;
+use crate::lacking::Lacking;
+use crate::name_case::NameCase;
+use crate::order::order_of;
+use crate::rrset::are_of_one_rrset;
+use std::alloc::{AllocError, Global};
 use std::cmp::Ordering;
 use zone_rdata::RrRef;
-use zone_set::{Zone, canonical_order};
+use zone_set::Zone;
 
 /// A change from one zone to another.
 #[derive(Drop)]
@@ -18,76 +24,121 @@ pub(crate) enum ChangeRef<'z> {
     Addition(RrRef<'z>),
 }
 
-/// The changes from one zone to another of its class, in order.
+/// The changes from one zone to another, in order.
 #[derive(Drop)]
 pub(crate) struct Changes<'z> {
     /// The next record that goes, taken.
     removal: Option<RrRef<'z>>,
-    removed: OnlyIn<'z>,
+    removed: Lacking<'z>,
     /// The next record that comes, taken.
     addition: Option<RrRef<'z>>,
-    added: OnlyIn<'z>,
+    added: Lacking<'z>,
 }
 
 /// Whether the removal of a record comes before the addition of another: it does in their RRset too.
 fn is_removal_first(gone: &RrRef<'_>, come: &RrRef<'_>) -> bool
-    requires { gone.now.class ≡ come.now.class }
     ensures first { IsTrue result
         ↔ GoesBefore (removal (record_of gone.now)) (addition (record_of come.now)) }
 {
-    (gone.kind.number() == come.kind.number() && gone.owner.is_same(&come.owner))
-        || canonical_order(gone, come) == Ordering::Less
+    are_of_one_rrset(gone, come) || order_of(gone, come) == Ordering::Less
+}
+
+/// Whether the next change is a removal: of these records, if any, one goes and one comes next.
+fn is_removal_next(removal: &Option<RrRef<'_>>, addition: &Option<RrRef<'_>>) -> bool
+    ensures { IsTrue result ↔ IsRemovalFirst removal.now addition.now }
+{
+    let Some(gone) = removal else {
+        return false;
+    };
+    match addition {
+        Some(come) => is_removal_first(gone, come),
+        None => true,
+    }
 }
 
 impl<'z> Changes<'z> {
     /// The changes from a zone to another.
-    pub(crate) fn new(zone: &'z Zone, other: &'z Zone) -> Changes<'z>
-        requires { zone.now.class ≡ other.now.class }
-        ensures { (class : ℕ) × (gone come : List Record) × AreLeft class result gone come
-            × IsDifference zone.now.records other.now.records gone come }
+    ///
+    /// # Errors
+    ///
+    /// Returns an error if it runs out of memory.
+    pub(crate) fn new(
+        alloc: Global,
+        zone: &'z Zone,
+        other: &'z Zone,
+        case: NameCase,
+    ) -> Result<Changes<'z>, AllocError>
+        ensures left { IfOk result (λ changes. (gone come : List Record)
+            × AreLeft case zone.now.records other.now.records changes gone come
+            × IsDifference case zone.now.records other.now.records gone come) }
+        ensures fails { OnErr result ((case ≡ Folded) × ((changes : List Change)
+            × AreChanges case zone.now.records other.now.records changes)) }
     {
-        let (mut removed, mut added) = (OnlyIn::new(zone, other), OnlyIn::new(other, zone));
-        let removal = removed.next();
-        let addition = added.next();
-        Changes {
+        let mut removed = Lacking::new(alloc, zone, other, case);
+        let mut added = Lacking::new(alloc, other, zone, case);
+        let removal = removed.next(alloc)?;
+        let addition = added.next(alloc)?;
+        Ok(Changes {
             removal,
             removed,
             addition,
             added,
-        }
+        })
+    }
+
+    /// Takes the next change, if it is a removal.
+    ///
+    /// # Errors
+    ///
+    /// Returns an error if it runs out of memory.
+    fn take_removal(&mut self, alloc: Global) -> Result<Option<ChangeRef<'z>>, AllocError>
+        requires first { IsRemovalFirst self.old.removal self.old.addition }
+        requires left { HasLeft self.old }
+        ensures taken { IfOk result (TakesNext self.old self.new) }
+        ensures fewer { IfOk result (λ found. IfSome found (λ _. left_len self.new < left_len self.old)) }
+        ensures fails { OnErr result (FailsFolded self.old) }
+    {
+        let Some(gone) = self.removal.take() else {
+            return Ok(None);
+        };
+        self.removal = self.removed.next(alloc)?;
+        Ok(Some(ChangeRef::Removal(gone)))
+    }
+
+    /// Takes the next change, if it is no removal.
+    ///
+    /// # Errors
+    ///
+    /// Returns an error if it runs out of memory.
+    fn take_addition(&mut self, alloc: Global) -> Result<Option<ChangeRef<'z>>, AllocError>
+        requires first { IsRemovalFirst self.old.removal self.old.addition → ⊥ }
+        requires left { HasLeft self.old }
+        ensures taken { IfOk result (TakesNext self.old self.new) }
+        ensures fewer { IfOk result (λ found. IfSome found (λ _. left_len self.new < left_len self.old)) }
+        ensures fails { OnErr result (FailsFolded self.old) }
+    {
+        let Some(come) = self.addition.take() else {
+            return Ok(None);
+        };
+        self.addition = self.added.next(alloc)?;
+        Ok(Some(ChangeRef::Addition(come)))
     }
 
     /// Takes the next change.
-    pub(crate) fn next(&mut self) -> Option<ChangeRef<'z>>
-        requires { (class : ℕ) × (gone come : List Record) × AreLeft class self.old gone come }
-        ensures taken { (class : ℕ) (gone come : List Record) → AreLeft class self.old gone come
-            → MatchOption result ((gone ≡ []) × (come ≡ []))
-            (λ change. TakesFirst class (change_of change) self.new gone come) }
-        ensures fewer { IfSome result (λ _. left_len self.new < left_len self.old) }
+    ///
+    /// # Errors
+    ///
+    /// Returns an error if it runs out of memory.
+    pub(crate) fn next(&mut self, alloc: Global) -> Result<Option<ChangeRef<'z>>, AllocError>
+        requires { HasLeft self.old }
+        ensures taken { IfOk result (TakesNext self.old self.new) }
+        ensures fewer { IfOk result (λ found. IfSome found (λ _. left_len self.new < left_len self.old)) }
+        ensures fails { OnErr result (FailsFolded self.old) }
     {
-        let removal = self.removal.take();
-        let addition = self.addition.take();
-        match (removal, addition) {
-            (None, None) => None,
-            (Some(gone), None) => {
-                self.removal = self.removed.next();
-                Some(ChangeRef::Removal(gone))
-            }
-            (None, Some(come)) => {
-                self.addition = self.added.next();
-                Some(ChangeRef::Addition(come))
-            }
-            (Some(gone), Some(come)) => {
-                if is_removal_first(&gone, &come) {
-                    self.removal = self.removed.next();
-                    self.addition = Some(come);
-                    Some(ChangeRef::Removal(gone))
-                } else {
-                    self.removal = Some(gone);
-                    self.addition = self.added.next();
-                    Some(ChangeRef::Addition(come))
-                }
-            }
+        if is_removal_next(&self.removal, &self.addition) {
+            self.take_removal(alloc)
+        } else {
+            self.take_addition(alloc)
         }
     }
 }

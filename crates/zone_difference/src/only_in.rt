@@ -1,17 +1,17 @@
-ghost use Rattle.std.specs.Prelude.{◌≡◌, ◌≤◌, ◌↔◌, ℕ, List, length, IsTrue};
-ghost use Rattle.std.specs.List.{AllByRecursion};
+ghost use Rattle.std.specs.Prelude.{◌≡◌, ◌≤◌, ◌↔◌, List, length, IsTrue};
 ghost use Rattle.std.specs.declared.cmp.Ordering.TheVariants.{Less};
 ghost use Rattle.zone_difference.specs.Walk.{AreSides, AreTaken, AreToCome, others_of, with_taken};
 ghost use Rattle.zone_rdata.specs.Lent.{record_of};
 ghost use Rattle.zone_rdata.specs.Record.{Record};
 ghost use Rattle.zone_set.specs.Order.{Ascends, canonical_cmp};
-ghost use Rattle.zone_set.specs.Zone.{Has};
+ghost use Rattle.zone_set.specs.Zone.{Has, IsZone};
 
+use crate::order::order_of;
 use std::cmp::Ordering;
 use zone_rdata::RrRef;
-use zone_set::{Records, Zone, canonical_order};
+use zone_set::{Records, Zone};
 
-/// The records of one zone that another of its class lacks, in canonical order.
+/// The records of one zone that another lacks, in canonical order.
 #[derive(Drop)]
 pub(crate) struct OnlyIn<'z> {
     /// The records of the zone that are left.
@@ -22,7 +22,7 @@ pub(crate) struct OnlyIn<'z> {
 }
 
 /// Takes the next record.
-fn take_next<'z>(records: &mut Records<'z>) -> Option<RrRef<'z>>
+pub(crate) fn take_next<'z>(records: &mut Records<'z>) -> Option<RrRef<'z>>
     ensures { with_taken result records.new ≡ records.old }
 {
     records.next()
@@ -30,16 +30,14 @@ fn take_next<'z>(records: &mut Records<'z>) -> Option<RrRef<'z>>
 
 /// Passes the records before this one, and returns whether it is among those that are left.
 fn pass_to<'z>(other: &mut Option<RrRef<'z>>, others: &mut Records<'z>, rr: &RrRef<'_>) -> bool
-    requires up { Ascends (with_taken other.old others.old) }
-    requires of_class { AllByRecursion (λ s. s.class ≡ rr.now.class) (with_taken other.old others.old) }
+    requires { Ascends (with_taken other.old others.old) }
     ensures up { Ascends (with_taken other.new others.new) }
-    ensures of_class { AllByRecursion (λ s. s.class ≡ rr.now.class) (with_taken other.new others.new) }
     ensures has { IsTrue result ↔ Has (with_taken other.old others.old) (record_of rr.now) }
     ensures rest { (s : Record) → canonical_cmp (record_of rr.now) s ≡ Less
         → Has (with_taken other.new others.new) s ↔ Has (with_taken other.old others.old) s }
 {
     'walk: while let Some(next) = other.take() {
-        match canonical_order(&next, rr) {
+        match order_of(&next, rr) {
             Ordering::Less => *other = take_next(others),
             Ordering::Equal => {
                 let same = next.is_same(rr);
@@ -58,10 +56,11 @@ fn pass_to<'z>(other: &mut Option<RrRef<'z>>, others: &mut Records<'z>, rr: &RrR
 impl<'z> OnlyIn<'z> {
     /// The records of a zone that the other lacks.
     pub(crate) fn new(zone: &'z Zone, other: &'z Zone) -> OnlyIn<'z>
-        requires { zone.now.class ≡ other.now.class }
         ensures records { result.records ≡ zone.now.records }
         ensures others { others_of result ≡ other.now.records }
-        ensures sides { AreSides zone.now.class result.records (others_of result) }
+        ensures sides { AreSides result.records (others_of result) }
+        ensures zone { IsZone zone.now }
+        ensures other { IsZone other.now }
     {
         let records = zone.records();
         let mut others = other.records();
@@ -75,9 +74,9 @@ impl<'z> OnlyIn<'z> {
 
     /// Takes the next of them.
     pub(crate) fn next(&mut self) -> Option<RrRef<'z>>
-        requires { (class : ℕ) × (only : List Record) × AreToCome class self.old only }
-        ensures taken { (class : ℕ) (only : List Record) → AreToCome class self.old only
-            → AreTaken class result self.new only }
+        requires { (only : List Record) × AreToCome self.old only }
+        ensures taken { (only : List Record) → AreToCome self.old only
+            → AreTaken result self.new only }
         ensures fewer { length (with_taken result self.new.records) ≤ length self.old.records }
     {
         'walk: while let Some(rr) = self.records.next() {

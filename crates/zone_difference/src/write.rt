@@ -4,6 +4,7 @@ ghost use Rattle.zone_difference.specs.Text.{IsWriteStop, WritesChanges, WritesP
 ghost use Rattle.zone_difference.specs.Walk.{change_of};
 
 use crate::changes::{ChangeRef, Changes};
+use crate::name_case::NameCase;
 use std::alloc::{AllocError, Global};
 use zone_print::{OctetWriter, push_line, write_octets};
 use zone_rdata::Stop;
@@ -28,31 +29,34 @@ fn push_change(change: &ChangeRef<'_>, out: &mut Vec<u8>) -> Result<(), AllocErr
     }
 }
 
-/// Writes the changes from one zone to another of its class, each as `- ` or `+ ` and the line of
-/// the record in the canonical text: the records of the first alone are removed, and those of the
-/// second alone are added, in canonical order. Of one RRset all removals come before the additions.
-/// Nothing is written for one zone. It keeps some 64 KiB of lines, and doesn't flush the writer.
+/// Writes the changes from one zone to another, each as `- ` or `+ ` and the line of the record in
+/// the canonical text: the records of the first of which the second has no equal are
+/// removed, and those of the second of which the first has none are added, in canonical order. Of one
+/// RRset all removals come before the additions. Names in data are compared as `case` says. Nothing is
+/// written for one zone. It keeps some 64 KiB of lines, and with `NameCase::Folded` an RRset. It
+/// doesn't flush the writer.
 ///
 /// # Errors
 ///
-/// `Write` where the writer failed, and `Memory`. A proper prefix of the text was written then.
+/// `Write` if the writer failed, and `Memory`. A prefix of the text was written then, and with
+/// `NameCase::Exact` a proper one.
 pub fn write_difference<W: OctetWriter>(
     alloc: Global,
     zone: &Zone,
     other: &Zone,
+    case: NameCase,
     writer: &mut W,
 ) -> Result<(), Stop>
-    requires { zone.now.class ≡ other.now.class }
-    ensures text { OnOk result (WritesChanges zone.now.records other.now.records
+    ensures text { OnOk result (WritesChanges case zone.now.records other.now.records
         (W.state writer.old).octets (W.state writer.new).octets) }
-    ensures part { OnErr result (WritesPart zone.now.records other.now.records
+    ensures part { OnErr result (WritesPart case zone.now.records other.now.records
         (W.state writer.old).octets (W.state writer.new).octets) }
     ensures works { OnOk result (WorksOn (W.state writer.old) (W.state writer.new)) }
     ensures stopped { IfErr result (IsWriteStop (W.state writer.old) (W.state writer.new)) }
 {
-    let mut changes = Changes::new(zone, other);
+    let mut changes = Changes::new(alloc, zone, other, case)?;
     let mut lines = Vec::new(alloc);
-    'walk: while let Some(change) = changes.next() {
+    'walk: while let Some(change) = changes.next(alloc)? {
         push_change(&change, &mut lines)?;
         if lines.len() >= WRITE_LEN {
             write_octets(writer, &lines)?;

@@ -17,10 +17,8 @@ walk-preserved c =
     let e : with_taken c.walk.other rest ≡ n ∷ rest = ap (λ h. with_taken h rest) (sym c.in-Some.ensures.value) in
     let f : with_taken c.take_next.result c.take_next.new.records ≡ rest = c.take_next.ensures in
     let up : Ascends (n ∷ rest) = subst Ascends e c.walk.invariant.up in
-    let each : AllByRecursion (λ (s : Record). s.class ≡ c.args.rr.now.class) (n ∷ rest) = subst (AllByRecursion (λ (s : Record). s.class ≡ c.args.rr.now.class)) e c.walk.invariant.of_class in
     record {
       up = subst Ascends (sym f) up.1;
-      of_class = subst (AllByRecursion (λ (s : Record). s.class ≡ c.args.rr.now.class)) (sym f) each.1;
       same = λ s at.
           let one = first_passed r n rest s (sym c.in-Less.ensures) at in
           let all = c.walk.invariant.same s at in (

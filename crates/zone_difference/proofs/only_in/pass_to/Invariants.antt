@@ -13,7 +13,6 @@ use Rattle.zone_difference.proofs.only_in.pass_to.Given as goal
 abbrev pub invariant-walk : goal.invariant-walk
 invariant-walk l = record {
   up : Ascends (with_taken l.other l.others);
-  of_class : AllByRecursion (λ (s : Record). s.class ≡ l.rr.class) (with_taken l.other l.others);
   same : (s : Record) → canonical_cmp (record_of l.rr) s ≢ Greater → Has (with_taken l.other l.others) s ↔ Has (with_taken l.initial.other l.initial.others) s;
 }
 

@@ -1,31 +1,37 @@
--- The records of each zone alone are still to come.
-use Rattle.std.proofs.Common.{sym, subst}
-use Rattle.zone_difference.proofs.Without.{difference_of, found_only}
-use Rattle.zone_difference.specs.Walk.{AreSides, others_of}
+-- The first record that goes and the first that comes are taken.
+use Rattle.std.proofs.lemmas.Result.{err_from_is_err_and}
+use Rattle.zone_difference.proofs.HaveChanges.{in_order}
 use Rattle.zone_difference.proofs.changes.Changes.new.Goals as goal
 
-pub next-removal-requires : goal.next-removal-requires
-next-removal-requires c =
-    let found = found_only c.new-removed.result.records (others_of c.new-removed.result) in
-    (c.args.zone.now.class, found.0, record { sides = c.new-removed.ensures.sides; are = found.1 })
+pub next-requires : goal.next-requires
+next-requires c = let l = c.new-removed.ensures in (c.args.case, c.args.other.now.records, l.0, l.1)
 
-pub next-addition-requires : goal.next-addition-requires
-next-addition-requires c =
-    let found = found_only c.new-added.result.records (others_of c.new-added.result) in
-    (c.args.other.now.class, found.0, record { sides = c.new-added.ensures.sides; are = found.1 })
+pub next-requires-2 : goal.next-requires-2
+next-requires-2 c = let l = c.new-added.ensures in (c.args.case, c.args.zone.now.records, l.0, l.1)
 
-pub returns : goal.returns
-returns c =
-    let gone = found_only c.new-removed.result.records (others_of c.new-removed.result) in
-    let come = found_only c.new-added.result.records (others_of c.new-added.result) in
-    let sides = subst (λ n. AreSides n c.new-added.result.records (others_of c.new-added.result)) (sym c.requires) c.new-added.ensures.sides in (
-      c.args.zone.now.class,
+pub returns-clause-left : goal.returns-clause-left
+returns-clause-left c =
+    let gone = c.new-removed.ensures in
+    let come = c.new-added.ensures in (
       gone.0,
       come.0,
       record {
-        removals = c.next-removal.ensures.taken c.args.zone.now.class gone.0 (record { sides = c.new-removed.ensures.sides; are = gone.1 });
-        additions = c.next-addition.ensures.taken c.args.zone.now.class come.0 (record { sides = sides; are = come.1 });
+        removals = c.in_ok-removal.ensures.taken c.args.case c.args.other.now.records gone.0 gone.1;
+        additions = c.in_ok-addition.ensures.taken c.args.case c.args.zone.now.records come.0 come.1;
       },
-      difference_of c.args.zone.now.records c.args.other.now.records _ _ _ _ gone.0 come.0 c.new-removed.ensures.records c.new-removed.ensures.others c.new-added.ensures.records c.new-added.ensures.others
-          gone.1 come.1 c.new-removed.ensures.sides.up c.new-added.ensures.sides.up,
+      record { gone = gone.2; come = come.2 },
     )
+
+pub returns-in_err-removal-clause-fails : goal.returns-in_err-removal-clause-fails
+returns-in_err-removal-clause-fails c =
+    let p = err_from_is_err_and c.from_residual.result c.from_residual.ensures.1 in
+    let gone = c.new-removed.ensures in
+    let come = c.new-added.ensures in
+    rw p.1 (c.in_err-removal.ensures.fails c.args.case c.args.other.now.records gone.0 gone.1, in_order c.args.case _ _ gone.0 come.0 (record { gone = gone.2; come = come.2 }))
+
+pub returns-in_err-addition-clause-fails : goal.returns-in_err-addition-clause-fails
+returns-in_err-addition-clause-fails c =
+    let p = err_from_is_err_and c.from_residual-in_err-addition.result c.from_residual-in_err-addition.ensures.1 in
+    let gone = c.new-removed.ensures in
+    let come = c.new-added.ensures in
+    rw p.1 (c.in_err-addition.ensures.fails c.args.case c.args.zone.now.records come.0 come.1, in_order c.args.case _ _ gone.0 come.0 (record { gone = gone.2; come = come.2 }))

@@ -6,7 +6,7 @@ use Rattle.zone_difference.proofs.only_in.OnlyIn.next.Given as goal
 -- only records that the other zone has were passed
 abbrev pub invariant-walk : goal.invariant-walk
 invariant-walk l = record {
-  ends : (class : ℕ) (only : List Record) → AreToCome class l.initial.self only → AreToCome class l.self only;
+  ends : (only : List Record) → AreToCome l.initial.self only → AreToCome l.self only;
   fewer : length l.self.records ≤ length l.initial.self.records;
 }
 
