@@ -7,3 +7,5 @@ pub mod Pieces
 pub mod Expansions
 pub mod Stacks
 mod ExpandedLoads
+pub mod FilesReading
+mod FilesLoading

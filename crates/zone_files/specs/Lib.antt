@@ -11,3 +11,4 @@ pub mod Expansion
 pub mod FileExpander
 pub mod IncludeStack
 pub mod ExpandedLoader
+pub mod Reading

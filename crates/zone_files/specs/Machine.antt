@@ -7,3 +7,4 @@ pub mod Progressing
 pub mod Expanding
 pub mod Stacking
 pub mod ExpandedLoading
+pub mod OpenReading

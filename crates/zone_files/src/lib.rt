@@ -7,6 +7,7 @@ mod expansion;
 mod fault;
 mod fault_line;
 mod file_name;
+mod files;
 pub mod laws;
 mod loading;
 mod places;
@@ -20,6 +21,7 @@ pub use fault_line::{
     write_unreadable_main,
 };
 pub use file_name::included_file_name;
+pub use files::{FilesStop, IncludedFiles, expand_files, load_files};
 pub use loading::{
     PresentationLoader, PresentationRefusal, SourceForm, accepted_source, compare_sources,
     normalise_source,

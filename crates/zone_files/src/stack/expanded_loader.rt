@@ -1,8 +1,9 @@
 //! The zone of a master file and those that it includes, which are fed in pieces.
-ghost use Rattle.std.specs.Prelude.{◌≡◌, ◌++◌, ◌-◌, ◌⊎◌, [], List, ℕ, Option, true, false, IfErr, IfOk, OnErr, OnOk, option_map};
+ghost use Rattle.std.specs.Prelude.{◌≡◌, ◌++◌, ◌-◌, ◌≤◌, ◌⊎◌, [], List, ℕ, Option, true, false, length, IfErr, IfOk, OnErr, OnOk, option_map};
 ghost use Rattle.zone_name.specs.Common.{Labels};
 ghost use Rattle.zone_rdata.specs.declared.fault.Fault.{Fault};
 ghost use Rattle.zone_rdata.specs.declared.fault.Place.TheVariants.{Line};
+ghost use Rattle.zone_print.specs.Canonical.{canon, text_limit};
 ghost use Rattle.zone_files.specs.Expansion.{Holds, at_first};
 ghost use Rattle.zone_files.specs.ExpandedLoader.{FilesDenote, LoadsEnd, LoadsInnermost, RefusesFor, StandsForExpanded, stopped};
 ghost use Rattle.zone_files.specs.FileExpander.{IsOver};
@@ -73,6 +74,22 @@ impl ExpandedLoader {
             loader: PresentationLoader::new(alloc, origin),
             text: Vec::new(alloc),
         })
+    }
+
+    /// A loader of files of which these are open, whose expanded text this has loaded.
+    pub(crate) fn of_parts(
+        alloc: Global,
+        stack: IncludeStack,
+        loader: PresentationLoader,
+    ) -> ExpandedLoader
+        ensures stack { result.stack ≡ stack }
+        ensures loader { result.loader ≡ loader }
+    {
+        ExpandedLoader {
+            stack,
+            loader,
+            text: Vec::new(alloc),
+        }
     }
 
     /// Takes the next piece of the innermost file, loads what is expanded of it, and returns the octets
@@ -163,6 +180,7 @@ impl ExpandedLoader {
             (origin : Labels) (fed : FedFiles)
             → StandsForExpanded self origin (at_first directory name origin) fed
             → FilesDenote directory name origin (main_file fed).octets (main_file fed).files z) }
+        ensures short { IfOk result.0 (λ z. length (canon z) ≤ text_limit) }
         ensures refused { IfErr result.0 (λ refusal. (origin : Labels) (first : Holds)
             (fed : FedFiles) (text : List ℕ) → StandsForFiles self.stack first fed text
             → StandsForPresentation origin self.loader text
@@ -181,6 +199,7 @@ fn loaded(stack: &IncludeStack, loader: PresentationLoader) -> Result<Zone, Expa
         → StandsForFiles stack.now (at_first directory name origin) fed text
         → StandsForPresentation origin loader text
         → FilesDenote directory name origin (main_file fed).octets (main_file fed).files z) }
+    ensures short { IfOk result (λ z. length (canon z) ≤ text_limit) }
     ensures refused { IfErr result (λ refusal. (origin : Labels) (text : List ℕ)
         → StandsForPresentation origin loader text
         → RefusesFor refusal stack.now origin text) }
@@ -209,6 +228,7 @@ fn loaded(stack: &IncludeStack, loader: PresentationLoader) -> Result<Zone, Expa
 /// What a text denotes.
 fn whole(loader: PresentationLoader) -> Result<Zone, ExpandedRefusal>
     ensures zone { IfOk result (DenotesLoaded loader) }
+    ensures short { IfOk result (λ z. length (canon z) ≤ text_limit) }
     ensures refused { IfErr result (λ refusal. (origin : Labels) (text : List ℕ)
         → StandsForPresentation origin loader text → RefusesWhole refusal origin text) }
 {
@@ -225,6 +245,7 @@ fn faulty(
     next_line: u64,
 ) -> Result<Zone, ExpandedRefusal>
     ensures zone { IfOk result (DenotesLoaded loader) }
+    ensures short { IfOk result (λ z. length (canon z) ≤ text_limit) }
     ensures refused { IfErr result (λ refusal. (origin : Labels) (text : List ℕ)
         → StandsForPresentation origin loader text
         → RefusesFaulty refusal fault (next_line - 1) origin text) }
