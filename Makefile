@@ -1,6 +1,6 @@
 # What people type first. `make` lists it.
 PREFIX ?= /usr/local
-PROGRAMS = zonenorm zonewords zonedigest
+PROGRAMS = zonenorm zonewords zonedigest zonefile
 
 .PHONY: help kit run programs test prove gate install deb
 
@@ -14,7 +14,7 @@ run: kit ## the example of README.md, without proofs: less than a minute the fir
 	@tools/gate/build_unproved zonenorm
 	build/unproved/zonenorm normalise example. < examples/first.zone
 
-programs: kit ## the three programs without proofs, as build/unproved/NAME: a minute
+programs: kit ## the four programs without proofs, as build/unproved/NAME: a minute
 	@tools/gate/build_unproved $(PROGRAMS)
 
 test: kit ## every test, stored run and command test, without proofs: 6 minutes on 4 processors

@@ -10,7 +10,7 @@ from pathlib import Path
 from typing import NoReturn
 
 TOP = Path(__file__).resolve().parents[1]
-PROGRAMS = ("zonenorm", "zonewords", "zonedigest")
+PROGRAMS = ("zonenorm", "zonewords", "zonedigest", "zonefile")
 UNPROVED = TOP / "build" / "unproved"
 
 

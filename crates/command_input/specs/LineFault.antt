@@ -9,6 +9,7 @@ use Rattle.command_input.specs.declared.line_fault.LineFault.TheVariants.{BadOri
 
 -- what is told of words that call nothing
 abbrev pub told_fault : NoCall → LineFault
+told_fault (no_calls.Shown text) = Clap text
 told_fault (no_calls.Told text) = Clap text
 told_fault no_calls.Memory = Memory
 

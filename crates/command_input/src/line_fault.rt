@@ -37,7 +37,7 @@ impl From<NoCall> for LineFault {
 
     fn from(no_call: NoCall) -> LineFault {
         match no_call {
-            NoCall::Told(text) => LineFault::Clap(text),
+            NoCall::Shown(text) | NoCall::Told(text) => LineFault::Clap(text),
             NoCall::Memory => LineFault::Memory,
         }
     }

@@ -1,13 +1,16 @@
 -- What the words of a command line call, by `clap` (this project's own).
 use Rattle.std.specs.Prelude.{◌≡◌, ◌≢◌, ◌++◌, ◌∷◌, ◌⊎◌, Bool, true, if◌then◌else◌, List, [], map, codes, string_bytes, Option, Some, IsSome}
 use Rattle.clap.specs.Words.{App, Row, Rule, Text, new_rule, new_app, subcommand_of, first_of, fault_of}
+use Rattle.clap.specs.Kinds.{IsAmong, Kinds}
 use Rattle.clap.specs.Walk.{is_empty}
 use Rattle.clap.specs.declared.builder.action.ArgAction.TheVariants.{SetTrue}
+use Rattle.clap.specs.declared.error.kind.ErrorKind.{ErrorKind}
+use Rattle.clap.specs.declared.error.kind.ErrorKind.TheVariants.{DisplayHelp, DisplayVersion}
 use Rattle.zone_name.specs.Common.{NothingIs}
 use Rattle.command_line.specs.declared.program.ArgumentKind.{ArgumentKind}
 use Rattle.command_line.specs.declared.program.ArgumentKind.TheVariants.{Word, Flag, Value}
 use Rattle.command_line.specs.declared.no_call.NoCall.{NoCall}
-use Rattle.command_line.specs.declared.no_call.NoCall.TheVariants.{Told, Memory}
+use Rattle.command_line.specs.declared.no_call.NoCall.TheVariants.{Shown, Told, Memory}
 
 -- an argument of a command: one required word at its position
 abbrev pub argument : Text → Rule
@@ -108,14 +111,33 @@ pub record Calls (commands : Commands) (words : List Text) (call : Called) : Typ
 abbrev pub HasNoFinalLineFeed : Text → Type 0
 HasNoFinalLineFeed text = (front : Text) → text ≢ front ++ 10 ∷ []
 
--- Why the words call nothing: by `clap` they are no command with all its arguments, or memory was
--- refused.
+-- an answer of `clap` that is no fault: the help or the version, for which words ask
+abbrev pub IsAskedFor : ErrorKind → Type 0
+IsAskedFor DisplayHelp = Unit {0}
+IsAskedFor DisplayVersion = Unit {0}
+IsAskedFor other = ⊥
+
+-- by `clap` the words may ask for its help or the version
+abbrev pub MayAsk : Kinds → Type 0
+MayAsk kinds = (kind : ErrorKind) × IsAmong kind kinds × IsAskedFor kind
+
+-- by `clap` they are no command, or they may have a fault
+abbrev pub MayFail : Kinds → Type 0
+MayFail kinds = (kinds ≡ []) ⊎ ((kind : ErrorKind) × IsAmong kind kinds × (IsAskedFor kind → ⊥))
+
+-- Why the words call nothing: by `clap` they ask for help or the version, or are no command with all
+-- its arguments; or memory was refused.
 abbrev pub IsNoCall : Commands → List Text → NoCall → Type 0
+IsNoCall commands words (Shown text) =
+    NothingIs (Calls commands words) × HasNoFinalLineFeed (string_bytes text)
+    × MayAsk (fault_of commands.app words)
 IsNoCall commands words (Told text) =
     NothingIs (Calls commands words) × HasNoFinalLineFeed (string_bytes text)
+    × MayFail (fault_of commands.app words)
 IsNoCall commands words Memory = Unit {0}
 
 -- why a program has no words: one of them is no text, or memory was refused
 abbrev pub IsNoWords : NoCall → Type 0
+IsNoWords (Shown text) = ⊥
 IsNoWords (Told text) = string_bytes text ≡ codes "error: an argument isn't valid UTF-8"
 IsNoWords Memory = Unit {0}

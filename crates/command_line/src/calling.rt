@@ -2,9 +2,10 @@
 ghost use Rattle.std.specs.Prelude.{◌≡◌, ◌≢◌, ◌↔◌, ◌⊎◌, drop, map, true, IfErr, IfOk, IsErr, string_bytes};
 ghost use Rattle.clap.specs.Words.{is_simple_and_free};
 ghost use Rattle.clap.specs.declared.error.kind.ErrorKind.TheVariants.{OutOfMemory};
-ghost use Rattle.command_line.specs.Calls.{Calls, IsNoCall};
+ghost use Rattle.clap.specs.declared.error.kind.ErrorKind.{ErrorKind};
+ghost use Rattle.command_line.specs.Calls.{Calls, IsAskedFor, IsNoCall};
 ghost use Rattle.command_line.specs.Program.{described};
-ghost use Rattle.command_line.specs.Machine.Telling.{EndsWell, IsWithoutLineFeeds, Tells};
+ghost use Rattle.command_line.specs.Machine.Telling.{Answers, EndsWell, IsWithoutLineFeeds, Tells};
 
 use crate::call::Call;
 use crate::no_call::NoCall;
@@ -17,7 +18,8 @@ use std::alloc::{AllocError, Global};
 ///
 /// # Errors
 ///
-/// `Told` if `clap` gives no matches for one of the commands, help included; `Memory`.
+/// `Shown` if the arguments ask for help or the version; `Told` if `clap` otherwise gives no matches for
+/// one of the commands; `Memory`.
 pub fn call_of<'w>(
     alloc: Global,
     program: &Program,
@@ -52,9 +54,11 @@ fn refusal(kind: ErrorKind, text: Result<String, AllocError>) -> NoCall
     ensures told { kind ≢ OutOfMemory → IfOk text (λ text. Tells (string_bytes text) result) }
     ensures memory { (result ≡ NoCall.Memory) ↔ ((kind ≡ OutOfMemory) ⊎ IsErr text) }
     ensures ends { EndsWell result }
+    ensures kind { Answers kind result }
 {
     match kind {
         ErrorKind::OutOfMemory => NoCall::Memory,
+        ErrorKind::DisplayHelp | ErrorKind::DisplayVersion => shown(text),
         _ => told(text),
     }
 }
@@ -64,11 +68,25 @@ fn help(alloc: Global, program: &Program) -> Result<String, AllocError> {
     readable(alloc, program)?.render_help()
 }
 
-/// What is printed of a text that `clap` gives: the text without the line feeds at its end.
+/// What is printed of a help or version that was asked for: the text without the line feeds at its end.
+fn shown(text: Result<String, AllocError>) -> NoCall
+    ensures told { IfOk text (λ text. Tells (string_bytes text) result) }
+    ensures memory { (result ≡ NoCall.Memory) ↔ IsErr text }
+    ensures ends { EndsWell result }
+    ensures kind { (kind : ErrorKind) → IsAskedFor kind → Answers kind result }
+{
+    match text {
+        Ok(text) => NoCall::Shown(without_line_feeds(text)),
+        Err(_) => NoCall::Memory,
+    }
+}
+
+/// What is printed of any other text that `clap` gives: the text without the line feeds at its end.
 fn told(text: Result<String, AllocError>) -> NoCall
     ensures told { IfOk text (λ text. Tells (string_bytes text) result) }
     ensures memory { (result ≡ NoCall.Memory) ↔ IsErr text }
     ensures ends { EndsWell result }
+    ensures kind { (kind : ErrorKind) → (IsAskedFor kind → ⊥) → Answers kind result }
 {
     match text {
         Ok(text) => NoCall::Told(without_line_feeds(text)),

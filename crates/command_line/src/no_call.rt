@@ -5,7 +5,9 @@ use std::alloc::AllocError;
 /// Why arguments call no command.
 #[derive(Debug, Drop)]
 pub enum NoCall {
-    /// What is printed instead of a call, help included, without a line feed at its end.
+    /// The help or the version, which the arguments ask for, without a line feed at its end.
+    Shown(String),
+    /// What is printed instead of a call, without a line feed at its end.
     Told(String),
     /// Memory was refused.
     Memory,

@@ -1,0 +1,5 @@
+pub mod Ordering
+pub mod Shown
+pub mod Running
+pub mod Texts
+pub mod Zones

@@ -1,0 +1,31 @@
+-- From what is made of a zone's text, and written of it, to what is left.
+use Rattle.std.proofs.Common.{◌≡◌, ℕ, List, subst}
+use Rattle.std.proofs.KnownBytes.{Keeps-refl}
+use Rattle.std.specs.Prelude.{Result, IfErr, IfOk, Ok, Err, OnErr, OnOk}
+use Rattle.std.specs.Io.KnownBytes.{Appends}
+use Rattle.zone_rdata.specs.declared.fault.Stop.{Stop}
+use Rattle.zone_rdata.specs.declared.fault.Stop.TheVariants.{Memory, Read, Refused, Write}
+use Rattle.zone_print.specs.Canonical.{text_limit}
+use Rattle.zone_print.specs.Device.{Device}
+use Rattle.zone_print.specs.Writing.{AppendsPart, IsFailedWrite, StopsPush}
+use Rattle.zone_print.specs.Writing as pushes
+use Rattle.words_print.specs.Shown.{IsShownText}
+use Rattle.zonefile_command.specs.Presented.{StopsPresenting, StopsShowing, large, memory, stops, write}
+
+-- the text wasn't made
+pub unmade : (text : List ℕ) (device : Device) (why : Stop) → StopsPush text_limit text why → StopsPresenting text device device why
+unmade text device _ (pushes.large over) = large over (Keeps-refl _, λ w. w)
+unmade text device _ pushes.memory = stops Memory (memory (Keeps-refl _, λ w. w))
+
+-- the writer failed
+pub unwritten : (text shown : List ℕ) (old new : Device) (why : Stop) → IsShownText text shown → AppendsPart old.octets new.octets shown
+    → IsFailedWrite old new why → StopsShowing text old new why
+unwritten text shown old new (Refused fault place) is part failed = absurd failed
+unwritten text shown old new Read is part failed = absurd failed
+unwritten text shown old new Write is part failed = write shown is part failed
+unwritten text shown old new Memory is part failed = absurd failed
+
+-- what is shown for a text is what is shown for another that is the same
+pub of_text : (text other : List ℕ) (old new : Device) (r : Result (Unit {0}) Stop) → text ≡ other → IfErr r (StopsShowing text old new) → IfErr r (StopsPresenting other old new)
+of_text text other old new (Ok x) same stopped = tt
+of_text text other old new (Err why) same stopped = stops why (subst (λ (t : List ℕ). StopsShowing t old new why) same stopped)

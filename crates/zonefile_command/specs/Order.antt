@@ -1,0 +1,106 @@
+-- What a command line of `zonefile` asks for (this project's own).
+use Rattle.std.specs.Prelude.{◌≡◌, ◌≢◌, ◌⊎◌, Bool, if◌then◌else◌, List, [], ◌∷◌, codes, option_map, string_bytes, Option, Some, None}
+use Rattle.clap.specs.Words.{Text}
+use Rattle.command_line.specs.Calls.{Called, Calls, Commands, IsNoCall, commands_of, text_of}
+use Rattle.command_line.specs.declared.program.ArgumentKind.{ArgumentKind}
+use Rattle.command_line.specs.declared.program.ArgumentKind.TheVariants.{Word, Flag, Value}
+use Rattle.command_input.specs.Order.{Gives, HasBadOrigin, HasFlag, HasText}
+use Rattle.zone_name.specs.Common.{Labels, NothingIs}
+use Rattle.zone_name.specs.Spelling.{SpellsCased}
+use Rattle.zonefile_command.specs.declared.notation.Notation.{Notation}
+use Rattle.zonefile_command.specs.declared.notation.Notation.TheVariants.{Generic, Presentation}
+use Rattle.zonefile_command.specs.declared.order.FileSource.{FileSource}
+use Rattle.zonefile_command.specs.declared.order.Action.{Action}
+use Rattle.zonefile_command.specs.declared.order.Action.TheVariants.{Normalise, Explain, Compare, Expand}
+use Rattle.zonefile_command.specs.declared.order.Order.{Order}
+use Rattle.zonefile_command.specs.declared.no_order.NoOrder.{NoOrder}
+use Rattle.zonefile_command.specs.declared.no_order.NoOrder.TheVariants.{BadOrigin, NoCall}
+
+-- the option that each command has: the directory of the files
+abbrev pub directory_option : Text × ArgumentKind
+directory_option = (codes "directory", Value)
+
+-- the arguments of a command on one file
+abbrev pub one_file : List (Text × ArgumentKind)
+one_file = (codes "ORIGIN", Word) ∷ (codes "FILE", Word) ∷ directory_option ∷ []
+
+-- those of `normalise`
+abbrev pub normalise_arguments : List (Text × ArgumentKind)
+normalise_arguments =
+    (codes "ORIGIN", Word) ∷ (codes "FILE", Word) ∷ (codes "words", Flag) ∷ directory_option ∷ []
+
+-- the program's commands with their arguments
+abbrev pub commands : Commands
+commands =
+    commands_of (codes "zonefile")
+    (record { word = codes "normalise"; arguments = normalise_arguments }
+    ∷ record { word = codes "explain"; arguments = one_file }
+    ∷ record {
+      word = codes "compare";
+      arguments =
+          (codes "ORIGIN1", Word) ∷ (codes "FILE1", Word) ∷ (codes "ORIGIN2", Word)
+          ∷ (codes "FILE2", Word) ∷ directory_option ∷ [];
+    }
+    ∷ record { word = codes "expand"; arguments = one_file }
+    ∷ [])
+
+-- The origin of a master file that a text gives, with its letters (RFC 1035 5.1): the absolute name
+-- that it spells, or the one that it spells with a dot at its end. The word `transfer` gives none,
+-- and `@` neither.
+pub record IsFileOrigin (text : Text) (origin : Labels) : Type 0 where
+  pub no_transfer : text ≢ codes "transfer"
+  pub no_sign : text ≢ codes "@"
+  pub spells : SpellsCased (Some []) text origin
+
+-- what a text given as an origin asks for: the word `transfer` for a transfer, any other text for a
+-- master file under the name that it gives
+abbrev pub IsOriginText : Text → Option Labels → Type 0
+IsOriginText text None = text ≡ codes "transfer"
+IsOriginText text (Some origin) = IsFileOrigin text origin
+
+-- what the texts of an origin and a file ask for
+pub record IsSource (call : Called) (origin file : Text) (source : FileSource) : Type 0 where
+  pub is_origin : HasText call origin (λ text. IsOriginText text source.origin)
+  pub is_file : text_of call file ≡ Some (string_bytes source.file)
+
+-- the notation that is asked for with `--words`, and without it
+abbrev pub notation_for : Bool → Notation
+notation_for words = if words then Presentation else Generic
+
+-- what a command with its texts asks for
+abbrev pub AsksFor : Called → Action → Type 0
+AsksFor call (Normalise source notation) =
+    (call.0 ≡ codes "normalise") × IsSource call (codes "ORIGIN") (codes "FILE") source
+    × HasFlag call (codes "words") (λ given. notation ≡ notation_for given)
+AsksFor call (Explain source) =
+    (call.0 ≡ codes "explain") × IsSource call (codes "ORIGIN") (codes "FILE") source
+AsksFor call (Compare first second) =
+    (call.0 ≡ codes "compare") × IsSource call (codes "ORIGIN1") (codes "FILE1") first
+    × IsSource call (codes "ORIGIN2") (codes "FILE2") second
+AsksFor call (Expand origin file) =
+    (call.0 ≡ codes "expand")
+    × HasText call (codes "ORIGIN") (λ text. IsFileOrigin text origin)
+    × (text_of call (codes "FILE") ≡ Some (string_bytes file))
+
+-- with the directory that is stated
+abbrev pub Asks : Called → Order → Type 0
+Asks call order =
+    AsksFor call order.action
+    × (text_of call (codes "directory") ≡ option_map string_bytes order.directory)
+
+-- the order that the words give
+abbrev pub Orders : List Text → Order → Type 0
+Orders = Gives commands Asks
+
+-- A text of an origin that asks for nothing: the first one, from the left. `expand` takes no
+-- transfer, which has no expanded text.
+abbrev pub RefusesOrigin : Called → Type 0
+RefusesOrigin call =
+    HasBadOrigin IsOriginText call
+    ⊎ ((call.0 ≡ codes "expand")
+    × HasText call (codes "ORIGIN") (λ text. NothingIs (IsFileOrigin text)))
+
+-- why the words give no order: the text of an origin asks for nothing; or they call nothing
+abbrev pub IsNoOrder : List Text → NoOrder → Type 0
+IsNoOrder words BadOrigin = (call : Called) × Calls commands words call × RefusesOrigin call
+IsNoOrder words (NoCall no_call) = IsNoCall commands words no_call

@@ -1,0 +1,172 @@
+//! What a command line asks for.
+ghost use Rattle.std.specs.Prelude.{◌≡◌, codes, drop, map, option_map, IfErr, IfOk, string_bytes};
+ghost use Rattle.command_line.specs.Calls.{IsOneOf, text_of};
+ghost use Rattle.zonefile_command.specs.Machine.Ordering.{IsOfAction, IsOfOrigin};
+ghost use Rattle.zonefile_command.specs.Order.{AsksFor, IsFileOrigin, IsNoOrder, IsOriginText, Orders, commands, notation_for};
+
+use crate::command::PROGRAM;
+use crate::no_order::NoOrder;
+use crate::notation::Notation;
+use command_line::{Call, after_name, call_of};
+use std::alloc::{AllocError, Global};
+use zone_name::CasedName;
+
+/// The word that stands in the place of an origin if the input is a transfer.
+const TRANSFER: &str = "transfer";
+
+/// The text that spells the origin which holds, and which no file has before its first entry.
+const AT: &str = "@";
+
+/// An input of the program.
+#[derive(Debug, Drop)]
+pub struct FileSource {
+    /// The origin of a master file, with its letters; none of a transfer.
+    pub origin: Option<CasedName>,
+    /// The path of the file, or `-` for standard input.
+    pub file: String,
+}
+
+/// What is to be done.
+#[derive(Debug, Drop)]
+pub enum Action {
+    /// Write the canonical text of the input, or the same for people.
+    Normalise(FileSource, Notation),
+    /// Report how many records the zone of the input has, or why it is refused.
+    Explain(FileSource),
+    /// Report whether two inputs denote one zone, or at which line their canonical texts differ.
+    Compare(FileSource, FileSource),
+    /// Write the expanded text of the master file at this path, under this origin.
+    Expand(CasedName, String),
+}
+
+/// What a command line asks for.
+#[derive(Debug, Drop)]
+pub struct Order {
+    /// The directory below which the files of `$INCLUDE` are; none for the working directory.
+    pub directory: Option<String>,
+    /// What is to be done.
+    pub action: Action,
+}
+
+/// The order that the arguments after the program's name give. The origins are judged from the left.
+///
+/// # Errors
+///
+/// `BadOrigin` if the text of an origin is neither a name nor `transfer`, or `transfer` is to be
+/// expanded; `NoCall` if the arguments ask for help or the version, or `clap` gives no matches for
+/// one of the commands, or memory was refused.
+pub fn order_of(alloc: Global, words: &[String]) -> Result<Order, NoOrder>
+    ensures ordered { IfOk result (Orders (map string_bytes words.now)) }
+    ensures refused { IfErr result (IsNoOrder (map string_bytes words.now)) }
+{
+    let call = call_of(alloc, &PROGRAM, words)?;
+    let action = action_of(alloc, &call)?;
+    let directory = directory_of(alloc, &call)?;
+    Ok(Order { directory, action })
+}
+
+/// The order of the program's arguments, of which the first is its name.
+///
+/// # Errors
+///
+/// `BadOrigin` if the text of an origin is neither a name nor `transfer`, or `transfer` is to be
+/// expanded; `NoCall` if the arguments ask for help or the version, or `clap` gives no matches for
+/// one of the commands, or memory was refused.
+pub fn order_after_name(alloc: Global, words: &[String]) -> Result<Order, NoOrder>
+    ensures ordered { IfOk result (Orders (drop 1 (map string_bytes words.now))) }
+    ensures refused { IfErr result (IsNoOrder (drop 1 (map string_bytes words.now))) }
+{
+    order_of(alloc, after_name(words))
+}
+
+/// What a call of one of the commands asks for.
+fn action_of(alloc: Global, call: &Call) -> Result<Action, NoOrder>
+    requires { IsOneOf commands.rows call.now }
+    ensures asked { IfOk result (AsksFor call.now) }
+    ensures refused { IfErr result (IsOfAction call.now) }
+{
+    match call.command() {
+        "normalise" => {
+            let source = source_of(alloc, call.text("ORIGIN"), call.text("FILE"))?;
+            Ok(Action::Normalise(source, notation_of(call.flag("words"))))
+        }
+        "explain" => Ok(Action::Explain(source_of(alloc, call.text("ORIGIN"), call.text("FILE"))?)),
+        "compare" => {
+            let first = origin_of(call.text("ORIGIN1"))?;
+            let second = origin_of(call.text("ORIGIN2"))?;
+            Ok(Action::Compare(
+                FileSource {
+                    origin: first,
+                    file: String::from_str(alloc, call.text("FILE1"))?,
+                },
+                FileSource {
+                    origin: second,
+                    file: String::from_str(alloc, call.text("FILE2"))?,
+                },
+            ))
+        }
+        "expand" => {
+            let origin = name_of(call.text("ORIGIN"))?;
+            Ok(Action::Expand(origin, String::from_str(alloc, call.text("FILE"))?))
+        }
+        _ => unreachable!(),
+    }
+}
+
+/// The notation that is asked for with the flag `--words`, or without it.
+fn notation_of(words: bool) -> Notation
+    ensures { result ≡ notation_for words }
+{
+    match words {
+        true => Notation::Presentation,
+        false => Notation::Generic,
+    }
+}
+
+/// The directory that a call states.
+fn directory_of(alloc: Global, call: &Call) -> Result<Option<String>, AllocError>
+    ensures { IfOk result (λ directory.
+        text_of call.now (codes "directory") ≡ option_map string_bytes directory) }
+{
+    match call.value("directory") {
+        Some(directory) => Ok(Some(String::from_str(alloc, directory)?)),
+        None => Ok(None),
+    }
+}
+
+/// The input that the texts of an origin and a file ask for.
+fn source_of(alloc: Global, origin: &str, file: &str) -> Result<FileSource, NoOrder>
+    ensures origin { IfOk result (λ source. IsOriginText origin.now source.origin) }
+    ensures file { IfOk result (λ source. string_bytes source.file ≡ file.now) }
+    ensures refused { IfErr result (IsOfOrigin IsOriginText origin.now) }
+{
+    Ok(FileSource {
+        origin: origin_of(origin)?,
+        file: String::from_str(alloc, file)?,
+    })
+}
+
+/// The origin that a text asks for, none for a transfer.
+fn origin_of(text: &str) -> Result<Option<CasedName>, NoOrder>
+    ensures found { IfOk result (IsOriginText text.now) }
+    ensures refused { IfErr result (IsOfOrigin IsOriginText text.now) }
+{
+    if text == TRANSFER {
+        return Ok(None);
+    }
+    Ok(Some(name_of(text)?))
+}
+
+/// The origin of a master file that a text gives.
+fn name_of(text: &str) -> Result<CasedName, NoOrder>
+    ensures found { IfOk result (IsFileOrigin text.now) }
+    ensures refused { IfErr result (IsOfOrigin IsFileOrigin text.now) }
+{
+    if text == TRANSFER || text == AT {
+        return Err(NoOrder::BadOrigin);
+    }
+    match CasedName::from_text(text.as_bytes(), Some(&CasedName::root())) {
+        Ok(name) => Ok(name),
+        Err(_) => Err(NoOrder::BadOrigin),
+    }
+}

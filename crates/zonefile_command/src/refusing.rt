@@ -1,0 +1,36 @@
+//! What is reported if a command line is no order.
+ghost use Rattle.zonefile_command.specs.Telling.{AnswersNoOrder};
+
+use crate::no_order::NoOrder;
+use command_input::{LineFault, report, status};
+use command_line::NoCall;
+use zone_engine::{OUT_OF_MEMORY, tell, write_line};
+use zone_print::OctetWriter;
+
+/// Prints why a command line is no order, and answers the status: help and the version on the writer,
+/// with status 0; all else on the error writer.
+pub fn refuse<W: OctetWriter, E: OctetWriter>(
+    no_order: &NoOrder,
+    output: &mut W,
+    errors: &mut E,
+) -> u8
+    ensures { AnswersNoOrder no_order.now (W.state output.old) (W.state output.new)
+        (E.state errors.old) (E.state errors.new) result }
+{
+    match no_order {
+        NoOrder::BadOrigin => tell(
+            errors,
+            "",
+            LineFault::BadOrigin.text(),
+            status::BAD_COMMAND_LINE,
+        ),
+        NoOrder::NoCall(no_call) => match no_call {
+            NoCall::Shown(text) => match write_line(output, "", text.as_str()) {
+                Ok(()) => status::SUCCESS,
+                Err(stop) => report("", &stop, errors),
+            },
+            NoCall::Told(text) => tell(errors, "", text.as_str(), status::BAD_COMMAND_LINE),
+            NoCall::Memory => tell(errors, "", OUT_OF_MEMORY, status::FAILED),
+        },
+    }
+}

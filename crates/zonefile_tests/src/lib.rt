@@ -1,0 +1,5 @@
+//! The tests of the public calls of `zonefile_command`.
+#![tactic(auto)]
+
+#[cfg(test)]
+mod tests;
