@@ -32,7 +32,7 @@ pub(crate) fn expand<S: ZoneFiles, W: OctetWriter, E: OctetWriter>(
     match files.open_main(path) {
         Some(main) => {
             match expand_files(alloc, directory, path, origin, main, files, output) {
-                Ok(()) => status::SUCCESS,
+                Ok(_stack) => status::SUCCESS,
                 Err(stop) => tell_stop(errors, "", path, &stop),
             }
         }
