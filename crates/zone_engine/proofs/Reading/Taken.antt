@@ -35,7 +35,7 @@ front_refused given new pending rest _ _ (of_class taken others p works parts te
 })
 front_refused given new pending rest _ _ (ending_fault e works is tells left) (itself all) = by_ending e.0 e.1 (tells.accepted all) is
 
-settling_is_of_bytes : (listed : List Placed) (stop : Stop) → StopsSettling listed stop → IsOfBytes stop
+pub settling_is_of_bytes : (listed : List Placed) (stop : Stop) → StopsSettling listed stop → IsOfBytes stop
 settling_is_of_bytes listed stop given = grind arith
 
 listing_is_of_bytes : (listed new : List Placed) (pending rest : Pending) (stop : Stop) → StopsListing listed pending new rest stop → IsOfBytes stop

@@ -1,5 +1,5 @@
 //! Files that are read and expanded, step by step.
-ghost use Rattle.std.specs.Prelude.{◌≡◌, ◌≤◌, ◌+◌, ◌++◌, ◌∷◌, [], ℕ, List, true, false, option_map, IfOk, OnOk};
+ghost use Rattle.std.specs.Prelude.{◌≡◌, ◌≤◌, ◌+◌, ◌++◌, ◌∷◌, [], ℕ, List, true, false, length, option_map, IfOk, OnOk};
 ghost use Rattle.zone_files.specs.Expansion.{Holds, at_first};
 ghost use Rattle.zone_files.specs.Machine.OpenReading.{IsReading, ReadsOn, StandsAfter, StandsForRead};
 ghost use Rattle.zone_files.specs.Reading.{OpenedFile};
@@ -171,6 +171,14 @@ impl<R: OctetReader + Drop> FilesReader<R> {
         };
         self.included += 1;
         Ok(())
+    }
+
+    /// Whether the main file alone is open, and was read to its end.
+    pub(crate) fn has_read_all(&self) -> bool
+        ensures alone { result ≡ true → length self.now.«open».outer.items ≡ 0 }
+        ensures ended { result ≡ true → self.now.«open».innermost.is_at_end ≡ true }
+    {
+        self.open.outer_files() == 0 && self.open.innermost.is_at_end
     }
 
     /// Whether the text has ended.

@@ -69,8 +69,10 @@ fn read_all<S: IncludedFiles>(
         → LoadsFiles S.opens S.File.state main first start origin reader.new files.new loader.new) }
 {
     'files: for _ in 0..u64::MAX {
-        if !read_on(reader, files)? {
-            return Ok(());
+        match read_on(reader, files) {
+            Ok(true) => {}
+            Ok(false) => return Ok(()),
+            Err(stop) => return Err(stop),
         }
         let Ok(()) = loader.feed(&reader.text) else {
             return Err(ReadingStop::Memory);
@@ -91,7 +93,7 @@ fn judged<R: OctetReader + Drop>(
         → AreZone R.state main opened directory name origin loaded.0) }
     ensures short { IfOk result (λ loaded. length (canon loaded.0) ≤ text_limit) }
 {
-    let is_whole = reader.open.outer_files() == 0 && reader.open.innermost.is_at_end;
+    let is_whole = reader.has_read_all();
     let FilesReader { alloc, stack, .. } = reader;
     let (loaded, stack) = ExpandedLoader::of_parts(alloc, stack, loader).load();
     match loaded {

@@ -1,5 +1,5 @@
 use Rattle.zone_engine.proofs.Common.{err_from_is_err_and, MatchResult-weaker}
-use Rattle.zone_engine.proofs.Reading.Taken.{zone_of_records, zone_read, listing_refused, settling_refused, finishing_is_of_bytes, finishing_refused, first_is_of_bytes}
+use Rattle.zone_engine.proofs.Reading.Taken.{zone_of_records, zone_read, listing_refused, settling_refused, settling_is_of_bytes, finishing_is_of_bytes, finishing_refused, first_is_of_bytes}
 use Rattle.zone_engine.proofs.loader.ZoneLoader.finish.Goals as goal
 
 pub returns-in-Err-clause-fault : goal.returns-in-Err-clause-fault
@@ -16,6 +16,11 @@ returns-in_err-settle-in-Ok-clause-fault g c =
     rw (p.1, p.2) (λ form octets is each taken.
     settling_refused g.S.FedSource.IsOf g.S.FedSource.Leave form _ (g.S.RrSource.pending c.finish.new.self) _ (g.S.FedSource.held c.finish.new.self) c.args.self.list octets c.args.self.refusal c.in-None.is
     c.in_ok-finish-in-None.ensures.finishes.finished (λ given. c.in_ok-finish-in-None.ensures.stands form octets given) c.take_lent.new.self _ _ c.in-Ok.ensures.taken c.in_err-settle-in-Ok.ensures.refused taken)
+
+pub returns-in_err-settle-in-Ok-clause-stopped : goal.returns-in_err-settle-in-Ok-clause-stopped
+returns-in_err-settle-in-Ok-clause-stopped g c =
+    let p = err_from_is_err_and c.from_residual-in_err-settle-in-Ok.result c.from_residual-in_err-settle-in-Ok.ensures.1 in
+    rw (p.1, p.2) (settling_is_of_bytes _ _ c.in_err-settle-in-Ok.ensures.refused)
 
 pub returns-in_ok-settle-in-Ok-clause-zone : goal.returns-in_ok-settle-in-Ok-clause-zone
 returns-in_ok-settle-in-Ok-clause-zone g c =
