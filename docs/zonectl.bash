@@ -3,7 +3,7 @@ _zonectl() {
     local word=${COMP_WORDS[COMP_CWORD]} before=${COMP_WORDS[COMP_CWORD - 1]} options=''
     COMPREPLY=()
     if [ "$COMP_CWORD" -eq 1 ]; then
-        mapfile -t COMPREPLY < <(compgen -W 'completion diff fetch normalise normalize sum --help --version -V -h' -- "$word")
+        mapfile -t COMPREPLY < <(compgen -W 'check completion diff fetch normalise normalize sum zonemd --help --version -V -h' -- "$word")
         return
     fi
     case $before in
@@ -16,12 +16,14 @@ _zonectl() {
         -n) mapfile -t COMPREPLY < <(compgen -W 'all' -- "$word") && return ;;
     esac
     case ${COMP_WORDS[1]} in
+        check) options='--color --deadline --format --help --jobs --json --key --lint --list --max-faults --max-size --no-lint --origin --origin-from --output --quiet --run-deadline --staged --strict --timeout --tls-ca --tls-client --tls-name --tls-no-verify --version -O -V -h -j -k -o -q -t' ;;
         completion) options='--color --help --output --quiet --version -V -h -o -q' ;;
         diff) options='--color --deadline --exact --format --help --ignore --json --key --lines --max-size --origin --origin-from --output --parts --presentation --quiet --require-zonemd --run-deadline --since --timeout --tls-ca --tls-client --tls-name --tls-no-verify --version -O -V -e -h -i -k -n -o -p -q -t -z' ;;
         fetch) options='--color --deadline --help --json --key --max-size --output --partial --quiet --run-deadline --timeout --tls-ca --tls-client --tls-name --tls-no-verify --version -V -h -k -o -q -t' ;;
         normalise) options='--archive --color --deadline --fold --help --json --key --max-size --origin --origin-from --output --output-dir --presentation --quiet --run-deadline --textconv --timeout --tls-ca --tls-client --tls-name --tls-no-verify --version -O -V -h -k -o -p -q -t' ;;
         normalize) options='--archive --color --deadline --fold --help --json --key --max-size --origin --origin-from --output --output-dir --presentation --quiet --run-deadline --textconv --timeout --tls-ca --tls-client --tls-name --tls-no-verify --version -O -V -h -k -o -p -q -t' ;;
         sum) options='--check --color --deadline --fold --help --jobs --json --key --max-size --origin --origin-from --output --quiet --run-deadline --timeout --tls-ca --tls-client --tls-name --tls-no-verify --version -O -V -h -j -k -o -q -t' ;;
+        zonemd) options='--color --deadline --help --json --key --max-size --origin --origin-from --output --quiet --record --run-deadline --serial --sha512 --timeout --tls-ca --tls-client --tls-name --tls-no-verify --version -O -V -h -k -o -q -t' ;;
     esac
     case $word in
         -*) mapfile -t COMPREPLY < <(compgen -W "$options" -- "$word") ;;

@@ -33,6 +33,7 @@ class Parser(argparse.ArgumentParser):
             prog=f"zonectl {name}", usage=f"zonectl {name} {usage}", description=about, allow_abbrev=False, add_help=False,
             formatter_class=argparse.RawDescriptionHelpFormatter)
         self.name = name
+        self.alone: dict[str, str] = {}  # what options that may have no value mean without one
         self.add_argument("operands", nargs="*", help=argparse.SUPPRESS)
         self.add_argument("-h", "--help", action="store_true", help="print this help")
         self.add_argument("-V", "--version", action="store_true", help="print the versions of zonectl, zonenorm and the text")
@@ -45,7 +46,7 @@ class Parser(argparse.ArgumentParser):
     def parsed(self, arguments: list[str]) -> argparse.Namespace:
         """Returns what a command line says. Raises Usage."""
         end = arguments.index("--") if "--" in arguments else len(arguments)
-        given = self.parse_intermixed_args(arguments[:end])
+        given = self.parse_intermixed_args([f"{it}={self.alone[it]}" if it in self.alone else it for it in arguments[:end]])
         given.operands += arguments[end + 1 :]
         return given
 

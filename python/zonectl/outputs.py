@@ -25,9 +25,9 @@ class Output:
         """Whether standard output gets colours."""
         return are_colours_wanted(self.colour, sys.stdout)
 
-    def note(self, text: str, source: str | None = None) -> None:
+    def note(self, text: str, source: str | None = None, by: str = "zonectl: ") -> None:
         """Writes a line to standard error."""
-        line = f"zonectl: {source}: {text}" if source else f"zonectl: {text}"
+        line = f"{by}{source}: {text}" if source else by + text
         if self.is_quiet:
             self.held.append(line)
         else:
@@ -49,9 +49,12 @@ class Output:
         with whole_file(path) as file:
             file.write(octets)
 
-    def json(self, found: dict[str, Any], path: str | None = None) -> None:
-        """Writes an object as a line."""
-        self.result(json.dumps(found) + "\n", path)
+    def answer(self, found: str | bytes | dict[str, Any], status: int, path: str | None = None) -> int:
+        """Writes a result, or an object as a line, and returns the status. Nothing is written to standard output where `is_quiet`
+        and the status is 0."""
+        if path or status or not self.is_quiet:
+            self.result(json.dumps(found) + "\n" if isinstance(found, dict) else found, path)
+        return status
 
 
 def say(line: str) -> None:

@@ -18,8 +18,6 @@ from .sources import File, Git, Server, Source, Standard, Web
 from .trust import Trust
 
 if TYPE_CHECKING:
-    import subprocess
-
     from .transfer import Taken
     from .tsig import Key
 
@@ -47,7 +45,6 @@ class Access:
     limits: Limits = field(default_factory=Limits)
     keys: dict[bytes, Key] = field(default_factory=dict)
     trust: Trust = field(default_factory=Trust)
-    warn: Callable[[str], object] = lambda text: None
 
     def key_of(self, server: Server) -> Key | None:
         """Returns the key that signs the query to a server: that of `KEY@`, or the only one. Raises Usage."""
@@ -66,7 +63,8 @@ class Read:
     """What was read: a master file, or the messages of a transfer, each after its length."""
 
     octets: bytes
-    is_transfer: bool
+    is_transfer: bool = False
+    has_mark: bool = False  # whether a byte order mark came before the octets
 
 
 def read(source: Source, access: Access) -> Read:
@@ -79,21 +77,19 @@ def read(source: Source, access: Access) -> Read:
     if octets.startswith(GZIP):
         octets = unpacked(octets, access.limits)
     form = source.form if isinstance(source, File) else ""
-    return _recognised(octets, form, access)
+    return _recognised(octets, form)
 
 
-def _recognised(octets: bytes, form: str, access: Access) -> Read:
+def _recognised(octets: bytes, form: str) -> Read:
     if form == "capture":
         return Read(octets, True)
-    for first, text in OTHER_FORMATS:
+    for first, what in OTHER_FORMATS:
         if re.match(first, octets):
-            raise Refusal(text)
+            raise Refusal(what)
     if form != "file" and form != "dig" and is_capture(octets):
         return Read(octets, True)
-    if octets.startswith(BYTE_ORDER_MARK):
-        access.warn("a byte order mark is skipped, for which servers refuse the file")
-        octets = octets[len(BYTE_ORDER_MARK) :]
-    return Read(dig.master_file(octets) if form == "dig" else octets, False)
+    text = octets.removeprefix(BYTE_ORDER_MARK)
+    return Read(dig.master_file(text) if form == "dig" else text, has_mark=text != octets)
 
 
 def is_capture(octets: bytes) -> bool:
@@ -181,51 +177,29 @@ def _until_ready(poll: select.poll, clock: Clock) -> None:
 
 def from_git(source: Git, limits: Limits) -> bytes:
     """Returns a blob of git. Raises Undone."""
-    return git_output(["cat-file", "blob", f"{source.revision}:{source.path}"], limits)
+    blob = f"{source.revision}:{source.path}"
+    if int(git_output(["cat-file", "-s", blob], limits)) > limits.max_size:
+        raise limits.too_large()
+    return git_output(["cat-file", "blob", blob], limits)
 
 
 def git_output(arguments: list[str], limits: Limits) -> bytes:
     """Returns what git writes. No shell runs, and git asks nothing. Raises Undone."""
     import subprocess
 
-    environment = {**os.environ, "GIT_TERMINAL_PROMPT": "0", "LC_ALL": "C"}
+    environment, clock = {**os.environ, "GIT_TERMINAL_PROMPT": "0", "LC_ALL": "C"}, limits.clock("git")
     try:
-        git = subprocess.Popen(
-            ["git", *arguments], stdin=subprocess.DEVNULL, stdout=subprocess.PIPE, stderr=subprocess.PIPE, env=environment)
+        git = subprocess.run(
+            ["git", *arguments], stdin=subprocess.DEVNULL, capture_output=True, env=environment, timeout=clock.left())
+    except subprocess.TimeoutExpired:
+        clock.check(early=1)
+        raise
     except OSError:
         raise Undone("git can't be run: is it installed?") from None
-    with git:
-        try:
-            found, said = _both_of(git, limits)
-        except BaseException:
-            git.kill()
-            raise
-        if git.wait():
-            lines = said.decode("utf-8", "surrogateescape").splitlines()
-            raise Undone(lines[0].removeprefix("fatal: ").removeprefix("error: ") if lines else "git failed")
-    return found
-
-
-def _both_of(git: subprocess.Popen[bytes], limits: Limits) -> tuple[bytes, bytes]:
-    """Returns what git writes on both outputs, until it closes them."""
-    assert git.stdout and git.stderr
-    clock, poll = limits.clock("git"), select.poll()
-    found = {git.stdout.fileno(): bytearray(), git.stderr.fileno(): bytearray()}
-    for descriptor in found:
-        poll.register(descriptor, select.POLLIN)
-    still = len(found)
-    while still:
-        left = clock.left()
-        for descriptor, _ in poll.poll(None if left is None else left * 1000 + 1):
-            piece = os.read(descriptor, PIECE)
-            found[descriptor] += piece
-            if not piece:
-                poll.unregister(descriptor)
-                still -= 1
-            if len(found[descriptor]) > limits.max_size:
-                raise limits.too_large()
-    out, said = found.values()
-    return bytes(out), bytes(said)
+    if git.returncode:
+        lines = git.stderr.decode("utf-8", "surrogateescape").splitlines()
+        raise Undone(lines[0].removeprefix("fatal: ").removeprefix("error: ") if lines else "git failed")
+    return git.stdout
 
 
 def transferred(source: Server, access: Access, sink: Callable[[bytes], object]) -> Taken:

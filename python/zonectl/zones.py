@@ -1,14 +1,14 @@
 """Copies of zones: a source is read, its origin found, and the engine asked for its canonical text."""
 from __future__ import annotations
 
-from collections.abc import Callable
+from collections.abc import Callable, Iterator
 from dataclasses import dataclass, field
 from typing import cast
 
 from . import engine, origin
 from .errors import Refusal, Undone, about
 from .names import class_name, shown_name
-from .reading import Access, Read, read
+from .reading import Access, Read, from_descriptor, from_path, read
 from .sources import File, Git, Server, Source, Web, zone_of_url
 
 
@@ -59,10 +59,9 @@ class Reader:
     def copy(self, source: Source, fallback: str | None = None) -> Copy:
         """Reads a source. `fallback` is the origin of a file without evidence. Raises Failure."""
         with about(source.text):
-            it = read(source, self._access(source))
-            copy = self._of_transfer(source, it) if it.is_transfer else self._of_file(source, it, fallback)
-            if self.require_zonemd and copy.is_transfer and (why := engine.verify(copy.text)):
-                raise Refusal(why)
+            copy = self.judged(source, read(source, self.access), fallback)
+            if self.require_zonemd and copy.is_transfer and not (found := engine.verify(copy.text)).is_verified:
+                raise Refusal("; ".join(found.lines()).replace("; not verified:", ";"))
             return copy
 
     def pair(self, first: Source, second: Source) -> tuple[Copy, Copy]:
@@ -81,9 +80,32 @@ class Reader:
             raise Undone(f"{first.text} is of class {one.rdclass}, {second.text} of class {other.rdclass}: nothing to compare")
         return one, other
 
-    def _access(self, source: Source) -> Access:
-        access = self.access
-        return Access(access.limits, access.keys, access.trust, lambda text: self.warn(source.text, text))
+    def judged(self, source: Source, it: Read, fallback: str | None = None) -> Copy:
+        """Returns what was read as a copy. Raises Failure."""
+        if it.is_transfer:
+            return self._of_transfer(source, it)
+        if it.has_mark:
+            self.warn(source.text, "a byte order mark is skipped, for which servers refuse the file")
+        name = self.origin_of(source, it.octets, fallback)
+        return self.under(source, engine.of_file(it.octets, name), name)
+
+    def under(self, source: Source, text: bytes, name: str) -> Copy:
+        """Returns the canonical text of a file as a copy. Its apex has to be the origin, if that wasn't given. Raises Undone."""
+        copy = Copy(source.text, text)
+        if copy.apex != name:
+            wrong = f"its SOA record is that of {copy.apex}, not of {name}"
+            if not self.origin:
+                raise Undone(f"{wrong}; give --origin NAME")
+            self.warn(source.text, wrong)
+        return copy
+
+    def lines(self, path: str) -> Iterator[tuple[int, str]]:
+        """Yields the lines of a list with their numbers, without empty ones and comments (`#`). `-` is standard input. Raises Failure."""
+        with about(path):
+            octets = from_descriptor(0, self.access.limits) if path == "-" else from_path(path, self.access.limits)
+        for number, line in enumerate(octets.decode("utf-8", "surrogateescape").split("\n"), 1):
+            if line.strip() and not line.startswith("#"):
+                yield number, line
 
     def _of_transfer(self, source: Source, it: Read) -> Copy:
         copy = self._transferred(source, it.octets)
@@ -116,17 +138,10 @@ class Reader:
         self.warn(source.text, f"decoded by zonectl: {', '.join(found.types)}")
         return Copy(source.text, text, is_transfer=True, decoder="zonectl")
 
-    def _of_file(self, source: Source, it: Read, fallback: str | None) -> Copy:
-        name = self.origin or self._evident(source, it.octets, fallback)
-        copy = Copy(source.text, engine.of_file(it.octets, name))
-        if copy.apex != name:
-            text = f"its SOA record is that of {copy.apex}, not of {name}"
-            if not self.origin:
-                raise Undone(f"{text}; give --origin NAME")
-            self.warn(source.text, text)
-        return copy
-
-    def _evident(self, source: Source, octets: bytes, fallback: str | None) -> str:
+    def origin_of(self, source: Source, octets: bytes, fallback: str | None = None) -> str:
+        """Returns the origin of a file. Raises Undone."""
+        if self.origin:
+            return self.origin
         found = origin.Evidence(origin.by_name(path_of(source)), origin.by_text(octets))
         if fallback and not found.by_name and not found.by_text:
             return fallback

@@ -50,12 +50,10 @@ def run(given: argparse.Namespace, output: Output) -> int:
     signed = bool(isinstance(source, Server) and access.key_of(source))
     what = f"the zone {zone}, {size(taken.octets)} in {counted(taken.messages, 'message')}" if zone else size(taken.octets)
     output.note(f"{what}, {duration(seconds)}", source.text)
-    if given.json and not given.quiet:
-        output.json({
-            "format": "zonectl-fetch/1", "status": 0, "source": source.text, "zone": zone, "octets": taken.octets,
-            "messages": taken.messages if zone else None, "seconds": seconds, "signed": signed,
-        })
-    return Status.SAME
+    return output.answer({
+        "format": "zonectl-fetch/1", "status": 0, "source": source.text, "zone": zone, "octets": taken.octets,
+        "messages": taken.messages if zone else None, "seconds": seconds, "signed": signed,
+    } if given.json else "", Status.SAME)
 
 
 def fetched(source: Source, access: Access, given: argparse.Namespace) -> tuple[Taken, Failure | None]:

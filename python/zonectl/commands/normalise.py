@@ -2,7 +2,6 @@
 from __future__ import annotations
 
 import argparse
-import json
 import os
 from collections.abc import Callable
 from typing import Any
@@ -50,10 +49,7 @@ def run(given: argparse.Namespace, output: Output) -> int:
         return textconv(sources[0], reader, output)
     if not is_many:
         copy = reader.copy(sources[0])
-        if given.output or not given.quiet:
-            shown = f"{json.dumps(object_of(copy, given.fold))}\n".encode() if given.json else text_of(copy, given)
-            output.result(shown, given.output)
-        return Status.SAME
+        return output.answer(object_of(copy, given.fold) if given.json else text_of(copy, given), Status.SAME, given.output)
     seen: set[str] = set()
     return many(sources, reader, output, lambda copy: written(copy, given, output, seen))
 

@@ -9,12 +9,11 @@ from dataclasses import dataclass, replace
 from typing import Any
 
 from .. import engine
-from ..errors import Failure, Status, Undone, Usage, about
+from ..errors import Failure, Status, Undone, Usage
 from ..folding import folded_text
 from ..names import absolute
 from ..options import Parser, add_jobs, add_output, add_sources, at_once, reader_of
 from ..outputs import Output
-from ..reading import from_descriptor, from_path
 from ..sources import Source, source_of, sources_of
 from ..texts import alarm, one_field
 from ..zones import Copy, Reader
@@ -76,7 +75,9 @@ def run(given: argparse.Namespace, output: Output) -> int:
             worst = max(worst, it.status)
         else:
             found.append(it)
-    return written([object_of(it, copy) for copy, it in found], [f"{it}\n" for _, it in found], worst, given, output)
+    return output.answer(
+        answer([object_of(it, copy) for copy, it in found], worst) if given.json else "".join(f"{it}\n" for _, it in found), worst,
+        given.output)
 
 
 def summed(source: Source, reader: Reader, is_folded: bool) -> tuple[Copy, Sum] | Failure:
@@ -94,25 +95,14 @@ def object_of(it: Sum, copy: Copy, **more: str) -> dict[str, Any]:
             "sha256": it.sha256, **more}
 
 
-def written(sums: list[dict[str, Any]], lines: list[str], status: int, given: argparse.Namespace, output: Output) -> int:
-    """Writes objects or lines, and returns the status."""
-    if given.quiet and not status and not given.output:
-        return status
-    if given.json:
-        output.json({"format": "zonectl-sum/1", "status": int(status), "sums": sums}, given.output)
-    else:
-        output.result("".join(lines), given.output)
-    return status
+def answer(sums: list[dict[str, Any]], status: int) -> dict[str, Any]:
+    """Returns digests as one object."""
+    return {"format": "zonectl-sum/1", "status": status, "sums": sums}
 
 
 def stored(path: str, reader: Reader) -> Iterator[Sum]:
     """Yields the lines of a file. Raises Undone at one that isn't such a line."""
-    with about(path):
-        limits = reader.access.limits
-        text = (from_descriptor(0, limits) if path == "-" else from_path(path, limits)).decode("utf-8", "surrogateescape")
-    for number, line in enumerate(text.split("\n"), 1):
-        if not line.strip() or line.startswith("#"):
-            continue
+    for number, line in reader.lines(path):
         found = LINE.fullmatch(line)
         if not found:
             raise Undone("it isn't a line of zonectl sum", path, line=number)
@@ -139,7 +129,7 @@ def check(given: argparse.Namespace, output: Output) -> int:
         worst = max(worst, 0 if now == it else 1)
         lines.append(f"{one_field(it.source)}: {text}\n")
         sums.append(object_of(now, copy, result=result))
-    return written(sums, lines, worst, given, output)
+    return output.answer(answer(sums, worst) if given.json else "".join(lines), worst, given.output)
 
 
 def again(it: Sum, reader: Reader) -> tuple[Copy, Sum] | Failure:
