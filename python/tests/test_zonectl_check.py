@@ -15,6 +15,7 @@ from zonectl_support import SMALL, InFolder, Ran, environment, ran, run_alone, s
 
 from zonectl import entries, lint
 
+TOP = Path(__file__).resolve().parents[2]
 BASE = "$TTL 1h\n@ SOA ns1 h 1 7200 900 1209600 300\n@ NS ns1\nns1 A 192.0.2.1\n"
 GOOD = "1 file: 1 good, 0 bad; 0 included, 0 skipped\n"
 BAD = "1 file: 0 good, 1 bad; 0 included, 0 skipped\n"
@@ -179,10 +180,12 @@ class Faults(InFolder):
     def test_annotations(self) -> None:
         git("init", "-q")
         self.write("in/a,b:%c\n.zone", FAULTY)
+        git("add", ".")
         os.chdir("in")
-        it = ran("check", "--format=github")
-        self.assertEqual(it.out, "::error file=in/a%2Cb%3A%25c\\x0a.zone,line=5,title=F9 BadRdata::the data doesn't fit its type\n"
-                         if it.out else "")
+        self.assertEqual(ran("check", "--format=github").out,
+                         "::error file=in/a%2Cb%3A%25c\\x0a.zone,line=5,title=F9 BadRdata::the data doesn't fit its type\n")
+        self.assertEqual(ran("check").out.splitlines()[0], "a,b:%c\\x0a.zone:5: F9 BadRdata: the data doesn't fit its type")
+        self.assertEqual(ran("check", "--format=github", "../in/w.zone").out, "")
         self.write("in/w.zone", SMALL + "@ 60 MX 1 n%\n")
         it = ran("check", "--format=github", "--lint=bind", "w.zone")
         self.assertEqual(it.out, "::error file=in/w.zone,line=5,title=host-name::x.: the mail server n%25.x. isn't a host name (refused by BIND)\n"
@@ -260,7 +263,7 @@ class Lint(InFolder):
         by = [server for server, letter in zip(lint.SERVERS, does) if letter == LEVELS[level]]
         self.assertEqual(levels[wanted], (level, by))
         self.assertEqual([it for it, _, _ in self.found(text)], [wanted] if does == "RRR" else [], text)
-        self.assertEqual(self.found(text, "--no-lint"), [])
+        self.assertEqual([it for it, _, _ in self.found(text, "--no-lint")], [wanted] if "mark" in wanted else [])
         self.assertEqual({level for _, level, _ in self.found(text, "--lint", "--strict")}, {"error"})
 
     def test_each_rule(self) -> None:
@@ -277,6 +280,12 @@ class Lint(InFolder):
         for lines in GOOD_CASES:
             with self.subTest(lines):
                 self.assertEqual(self.found(f"{BASE}{lines}\n", "--lint"), [])
+
+    @unittest.skipUnless((TOP / "docs").is_dir(), "the documents aren't beside the tests")
+    def test_the_page_has_the_rules(self) -> None:
+        page = (TOP / "docs/zonectl.1").read_text().replace("\\-", "-")
+        rows = re.findall(r"^([a-z0-9-]+) +([Rw-]) +([Rw-]) +([Rw-])$", page, re.M)
+        self.assertEqual({rule: "".join(does) for rule, *does in rows}, lint.RULES)
 
     def test_places(self) -> None:
         text = BASE + "$ORIGIN w.z.test.\n\n@ ( CNAME\n ns1 ) ; x\n$ORIGIN z.test.\nv A 192.0.2.3\nw ( 3600\n A ) 192.0.2.9\n\tA 192.0.2.8\nw A 192.0.2.9\n"

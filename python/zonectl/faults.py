@@ -8,7 +8,7 @@ from __future__ import annotations
 import dataclasses
 import os
 import re
-from typing import NamedTuple
+from typing import Any, NamedTuple
 
 from . import engine
 from .entries import stated
@@ -40,6 +40,7 @@ class Finding:
     text: str
     source: str | None = None  # the line of the file
     servers: list[str] = dataclasses.field(default_factory=list)  # those that refuse the zone, or load it with a warning
+    does: str = ""  # `refused by` or `a warning of`, which JSON hasn't
 
     @property
     def title(self) -> str:
@@ -54,10 +55,13 @@ class Finding:
         if self.item is not None:
             text += f': "{self.item}"'
         if self.rule:
-            names = ", ".join(self.servers)
-            return f"{text} (refused by {names})" if self.level == "error" else f"{text} (a warning of {names})"
+            return f"{text} ({self.does} {', '.join(self.servers)})"
         note = NOTES.get(self.fault or 0)
         return f"{text} ({note})" if note else text
+
+    def object(self) -> dict[str, Any]:
+        """Returns it as JSON has it."""
+        return {name: it for name, it in vars(self).items() if name != "does"}
 
     def lines(self) -> str:
         """Returns it for people: with its place, and the source line."""
@@ -70,7 +74,7 @@ class Finding:
 
     def command(self, prefix: str) -> str:
         """Returns it as an annotation of GitHub's workflows."""
-        path = os.path.normpath(os.path.join(prefix, self.file)) if prefix else self.file
+        path = os.path.normpath(os.path.join(prefix, self.file)) if prefix and "://" not in self.file else self.file
         place = f"file={_escaped(path, ':,')},line={self.line or 1},title={_escaped(self.title, ':,')}"
         return f"::{self.level} {place}::{_escaped(self.body)}\n"
 

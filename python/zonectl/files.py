@@ -3,7 +3,7 @@ from __future__ import annotations
 
 import os
 import re
-from collections.abc import Callable
+from collections.abc import Callable, Iterator
 from typing import NamedTuple
 
 from .bounds import Limits
@@ -34,17 +34,17 @@ def below(folder: str, limits: Limits) -> tuple[list[str], int]:
     try:
         names = _names(git_output(["-C", folder, "ls-files", "-z"], limits))
     except Undone:
-        names = [os.path.relpath(os.path.join(at, name), folder) for at, folders, files in os.walk(folder)
-                 if not _left_out(folders) for name in files]
+        names = list(_walked(folder))
     paths = [it for it in (os.path.normpath(os.path.join(folder, name)) for name in sorted(names)) if os.path.isfile(it)]
-    found = [it for it in paths if is_zone_file(it, lambda it=it: _start(it))]  # type: ignore[misc]
+    found = [it for it in paths if is_zone_file(it, lambda: _start(it))]
     return found, len(paths) - len(found)
 
 
-def _left_out(folders: list[str]) -> bool:
-    """Takes git's own folder out of a walk."""
-    folders[:] = [it for it in folders if it != ".git"]
-    return False
+def _walked(folder: str) -> Iterator[str]:
+    """Yields the files below a folder, outside of git's own."""
+    for at, folders, files in os.walk(folder):
+        folders[:] = [it for it in folders if it != ".git"]
+        yield from (os.path.relpath(os.path.join(at, name), folder) for name in files)
 
 
 def _start(path: str) -> bytes:
@@ -66,7 +66,7 @@ def staged(paths: list[str], limits: Limits) -> tuple[list[Git], int]:
         names = _names(git_output(
             ["diff", "--cached", "--name-only", "--no-renames", "--diff-filter=AM", "--relative", "-z", "--", *paths], limits))
     sources = [Git(it, "", f"./{it}") for it in names]
-    found = [it for it in sources if is_zone_file(it.text, lambda it=it: _blob(it, limits))]  # type: ignore[misc]
+    found = [it for it in sources if is_zone_file(it.text, lambda: _blob(it, limits))]
     return found, len(names) - len(found)
 
 
@@ -89,7 +89,7 @@ def changed_since(revision: str, paths: list[str], limits: Limits) -> list[Chang
     found = []
     for status, path in zip(words[::2], words[1::2]):
         it = Change(path, up + path, {"A": "added", "D": "removed"}.get(status[:1], "changed"))
-        if is_zone_file(path, lambda it=it: _beginning(it, revision, limits)):  # type: ignore[misc]
+        if is_zone_file(path, lambda: _beginning(it, revision, limits)):
             found.append(it)
     return found
 

@@ -41,8 +41,13 @@ class Problem(NamedTuple):
     records: list[Record]
 
 
-def judged(rule: str, named: Iterable[str]) -> tuple[str, list[str]] | None:
-    """Returns the level of a rule for the servers named, and the servers by which it has it; None if they load the zone."""
+def judged(rule: str, named: Iterable[str] | None) -> tuple[str, list[str]] | None:
+    """Returns the level of a rule for the servers named, and which ones have it; None if they load the zone.
+
+    If none is named, that is an error which all have.
+    """
+    if named is None:
+        return ("error", list(SERVERS)) if RULES[rule] == "RRR" else None
     for level, letter in (("error", "R"), ("warning", "w")):
         servers = [server for server, does in zip(SERVERS, RULES[rule]) if does == letter]
         if set(servers) & set(named):
@@ -100,16 +105,19 @@ def _above(name: str) -> Iterator[str]:
         yield name
 
 
-def problems(copy: Copy) -> Iterator[Problem]:
-    """Yields what the rules on records find."""
+def problems(copy: Copy, is_of_all: bool) -> Iterator[Problem]:
+    """Yields what the rules on records find; or those alone for which all servers refuse a zone."""
     names = Names(copy)
+    for owner, types in names.types.items():
+        yield from _of_aliases(names, owner, types)
+    if is_of_all:
+        return
     apex = names.types[copy.apex]
     if "NS" not in apex:
         yield Problem("no-apex-ns", copy.apex, "the apex has no NS record", names.records(copy.apex, "SOA"))
     if not HOST.fullmatch(copy.soa[4]):
         yield Problem("host-name", copy.apex, f"the primary {copy.soa[4]} isn't a host name", names.records(copy.apex, "SOA"))
     for owner, types in names.types.items():
-        yield from _of_aliases(names, owner, types)
         yield from _of_owner(names, owner, types)
         for kind in TARGETS:
             for data in types.get(kind, ()):

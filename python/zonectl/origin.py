@@ -2,7 +2,6 @@
 from __future__ import annotations
 
 import re
-from dataclasses import dataclass
 
 from .entries import INCLUDE, stated
 from .errors import Undone
@@ -17,27 +16,22 @@ GUESSES = frozenset("internal external signed unsigned old new orig bak local la
 SOA, SOA_WORD = 6, re.compile(rb"SOA|TYPE6", re.I)
 
 
-@dataclass(frozen=True)
-class Evidence:
-    """The zone that the name of a file names, and the one that its text does."""
+def decided(name: str | None, text: str | None, preferred: str | None) -> str:
+    """Returns the origin, of the zones that the name of a file and its text name. Raises Undone.
 
-    by_name: str | None
-    by_text: str | None
-
-    def origin(self, preferred: str | None) -> str:
-        """Returns the origin. `preferred` settles a disagreement: `name` or `text`. Raises Undone."""
-        name, text = self.by_name, self.by_text
-        if text and (not name or text == name or text.replace("/", "_") == name):
-            return text
-        if name and text:
-            if not preferred:
-                raise Undone(f"its name says {name}, its text says {text}; give --origin NAME or --origin-from name|text")
-            return name if preferred == "name" else text
-        if not name:
-            raise Undone("neither its name nor its text says which zone it is; give --origin NAME")
-        if is_guess(name) and preferred != "name":
-            raise Undone(f"its name alone says {name}, which is a guess; give --origin NAME or --origin-from name")
-        return name
+    `preferred` settles a disagreement: `name` or `text`.
+    """
+    if text and (not name or text == name or text.replace("/", "_") == name):
+        return text
+    if name and text:
+        if not preferred:
+            raise Undone(f"its name says {name}, its text says {text}; give --origin NAME or --origin-from name|text")
+        return name if preferred == "name" else text
+    if not name:
+        raise Undone("neither its name nor its text says which zone it is; give --origin NAME")
+    if is_guess(name) and preferred != "name":
+        raise Undone(f"its name alone says {name}, which is a guess; give --origin NAME or --origin-from name")
+    return name
 
 
 def is_guess(name: str) -> bool:

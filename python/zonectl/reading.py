@@ -1,6 +1,7 @@
 """Reads the octets of a source, within its limits of size and time, and says what they are: a master file or a transfer."""
 from __future__ import annotations
 
+import io
 import os
 import re
 import select
@@ -18,10 +19,9 @@ from .sources import File, Git, Server, Source, Standard, Web
 from .trust import Trust
 
 if TYPE_CHECKING:
-    from .transfer import Taken
     from .tsig import Key
 
-PIECE, BLOCK = 1 << 20, 1 << 14
+PIECE = 1 << 20
 GZIP = b"\x1f\x8b\x08"
 BYTE_ORDER_MARK = b"\xef\xbb\xbf"
 # First octets of what is no master file, what it is and what to do.
@@ -99,25 +99,20 @@ def is_capture(octets: bytes) -> bool:
 
 def unpacked(octets: bytes, limits: Limits) -> bytes:
     """Returns what is in a gzip file, of all its members. Raises Refusal or Undone."""
-    found, clock, member = bytearray(), limits.clock("unpacking"), zlib.decompressobj(wbits=31)
-    is_begun = True  # whether a member has begun and hasn't ended
-    for at in range(0, len(octets), BLOCK):
-        block = octets[at : at + BLOCK]
-        while block:
-            if not is_begun:
-                block = block.lstrip(b"\0")  # which may fill a block of a tape
-                member, is_begun = zlib.decompressobj(wbits=31), bool(block)
-            try:
-                found += member.decompress(block, PIECE)
-            except zlib.error:
-                raise Refusal("the gzip file is broken") from None
-            clock.check()
-            if len(found) > limits.max_size:
-                raise limits.too_large()
-            is_begun = is_begun and not member.eof
-            block = member.unconsumed_tail if is_begun else member.unused_data
-    if is_begun:
-        raise Refusal("the gzip file is cut off")
+    import gzip
+
+    found, clock = bytearray(), limits.clock("unpacking")
+    try:
+        with gzip.GzipFile(fileobj=io.BytesIO(octets)) as file:
+            while piece := file.read(PIECE):
+                found += piece
+                clock.check()
+                if len(found) > limits.max_size:
+                    raise limits.too_large()
+    except EOFError:
+        raise Refusal("the gzip file is cut off") from None
+    except (gzip.BadGzipFile, zlib.error):
+        raise Refusal("the gzip file is broken") from None
     if found.startswith(GZIP):
         raise Refusal("it is gzip inside gzip; one level is read")
     return bytes(found)
@@ -202,15 +197,15 @@ def git_output(arguments: list[str], limits: Limits) -> bytes:
     return git.stdout
 
 
-def transferred(source: Server, access: Access, sink: Callable[[bytes], object]) -> Taken:
-    """Asks a server for a zone and hands the messages to `sink`. Raises Failure."""
+def transferred(source: Server, access: Access, sink: Callable[[bytes], object]) -> int:
+    """Asks a server for a zone and hands the messages to `sink`. Returns how many came. Raises Failure."""
     from .connections import connected
     from .transfer import Query, ask
 
     key = access.key_of(source)
     context = access.trust.context("dot") if source.is_tls else None
     clock = access.limits.clock("the transfer")
-    query = Query(wire_name(source.zone).lower(), source.class_number)
+    query = Query(wire_name(source.zone), source.class_number)
     with connected(source.host, source.port, access.trust.name or source.host, context, clock) as connection:
         return ask(connection, query, key, access.limits, sink)
 

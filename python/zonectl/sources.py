@@ -5,7 +5,7 @@ import re
 from dataclasses import dataclass
 
 from .errors import Usage
-from .names import absolute, class_number, wire_name
+from .names import absolute, class_number
 
 SCHEME = re.compile(r"([A-Za-z][A-Za-z0-9+.-]*)://")
 PREFIX = re.compile(r"(git|file|capture|dig):", re.I)
@@ -152,8 +152,3 @@ def sources_of(texts: list[str]) -> list[Source]:
     if sum(isinstance(it, Standard) for it in sources) > 1:
         raise Usage("standard input (-) can be read once")
     return sources
-
-
-def zone_of_url(source: Source) -> bytes | None:
-    """Returns the zone that a source's URL names, in wire format and lower case."""
-    return wire_name(source.zone).lower() if isinstance(source, Server) else None

@@ -21,7 +21,7 @@ def problems(octets: bytes, origin: str) -> Iterator[tuple[int, Problem]]:
     """Yields what the rules on spelling find, each with its line."""
     if not (ZERO.search(octets) or b"\r" in octets or not octets.isascii() or octets.upper().count(b"SOA") > 1):
         return
-    soas, has_return = 0, False
+    soas, has_return = 0, b"\r" not in octets
     for it in stated(octets, origin):
         line, owner, soas = it.entry.line, it.owner or "", soas + (it.kind == SOA)
         if it.kind == ADDRESS and it.data and LEADING.fullmatch(it.data[0]):

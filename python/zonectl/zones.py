@@ -2,48 +2,23 @@
 from __future__ import annotations
 
 from collections.abc import Callable, Iterator
-from dataclasses import dataclass, field
+from dataclasses import dataclass
 from typing import cast
 
 from . import engine, origin
 from .errors import Refusal, Undone, about
-from .names import class_name, shown_name
+from .names import class_name
 from .reading import Access, Read, from_descriptor, from_path, read
-from .sources import File, Git, Server, Source, Web, zone_of_url
+from .sources import File, Git, Server, Source, Web
 
 
-@dataclass(frozen=True)
 class Copy:
     """A copy of a zone. `source` is the argument that names it."""
 
-    source: str
-    text: bytes  # the canonical text
-    is_transfer: bool = False
-    decoder: str = "engine"
-    soa: list[str] = field(init=False, repr=False, compare=False)
-
-    def __post_init__(self) -> None:
-        object.__setattr__(self, "soa", self.text[: self.text.index(b"\n")].decode("ascii").split(" "))
-
-    @property
-    def apex(self) -> str:
-        """The owner of the SOA record."""
-        return self.soa[0]
-
-    @property
-    def rdclass(self) -> str:
-        """The class of all records."""
-        return self.soa[2]
-
-    @property
-    def serial(self) -> int:
-        """The serial of the SOA record."""
-        return int(self.soa[6])
-
-    @property
-    def records(self) -> int:
-        """How many records it has."""
-        return self.text.count(b"\n")
+    def __init__(self, source: str, text: bytes, is_transfer: bool = False, decoder: str = "engine") -> None:
+        self.source, self.text, self.is_transfer, self.decoder = source, text, is_transfer, decoder
+        self.soa = text[: text.index(b"\n")].decode("ascii").split(" ")
+        self.apex, self.rdclass, self.serial, self.records = self.soa[0], self.soa[2], int(self.soa[6]), text.count(b"\n")
 
 
 @dataclass(frozen=True)
@@ -66,7 +41,7 @@ class Reader:
 
     def pair(self, first: Source, second: Source) -> tuple[Copy, Copy]:
         """Reads two sources of one zone. Files come before servers, which aren't asked for another zone. Raises Failure."""
-        urls = [shown_name(it) if it else None for it in map(zone_of_url, (first, second))]
+        urls = [it.zone if isinstance(it, Server) else None for it in (first, second)]
         known, copies = [*urls], cast("list[Copy | None]", [None, None])
         for at in sorted((0, 1), key=lambda at: urls[at] is not None):
             if all(known):
@@ -142,10 +117,8 @@ class Reader:
         """Returns the origin of a file. Raises Undone."""
         if self.origin:
             return self.origin
-        found = origin.Evidence(origin.by_name(path_of(source)), origin.by_text(octets))
-        if fallback and not found.by_name and not found.by_text:
-            return fallback
-        return found.origin(self.origin_from)
+        name, text = origin.by_name(path_of(source)), origin.by_text(octets)
+        return fallback if fallback and not name and not text else origin.decided(name, text, self.origin_from)
 
 
 def path_of(source: Source) -> str:

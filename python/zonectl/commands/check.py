@@ -4,16 +4,16 @@ from __future__ import annotations
 import argparse
 import dataclasses
 import os
-import re
 from collections.abc import Iterator
-from typing import NamedTuple
+from typing import Any, NamedTuple
 
 from .. import lint, spelling
+from ..bounds import whole
 from ..errors import Failure, Status, Undone, Usage, about
 from ..faults import Finding, faults_of, source_line
 from ..files import below, prefix, staged
 from ..names import absolute
-from ..options import Parser, add_jobs, add_output, add_sources, at_once, reader_of
+from ..options import Parser, add_jobs, add_output, add_sources, at_once, form_of, reader_of
 from ..outputs import Output
 from ..reading import Read, read
 from ..sources import File, Git, Source, source_of, sources_of
@@ -38,16 +38,12 @@ class Asked(NamedTuple):
 class Came(NamedTuple):
     """What came of a source."""
 
-    asked: Asked
     findings: list[Finding]
-    failure: Failure | None = None
     included: frozenset[str] = frozenset()
 
     @property
     def status(self) -> int:
         """The status of this source."""
-        if self.failure:
-            return self.failure.status
         return Status.REFUSED if any(it.level == "error" for it in self.findings) else Status.SAME
 
 
@@ -58,13 +54,6 @@ def servers(text: str) -> list[str]:
     if "" in names:
         raise ValueError(f"not servers: {text} ({','.join(known)})")
     return names
-
-
-def number(text: str) -> int:
-    """Returns a number of faults. Raises ValueError."""
-    if not re.fullmatch("[1-9][0-9]{0,5}", text):
-        raise ValueError(f"not a number from 1 to 999999: {text}")
-    return int(text)
 
 
 def parser() -> Parser:
@@ -78,7 +67,7 @@ def parser() -> Parser:
     made.option("--format", choices=FORMATS, metavar="FORMAT", help="text, json or github (annotations)")
     made.option("--staged", action="store_true", help="check what is staged in git")
     made.option("--list", metavar="FILE", help="check the lines ZONE SOURCE of FILE (- is standard input)")
-    made.option("--max-faults", type=number, default=MOST, metavar="N", help=f"report so many of a file ({MOST})")
+    made.option("--max-faults", type=whole(999_999), default=MOST, metavar="N", help=f"report so many of a file ({MOST})")
     add_jobs(made)
     add_output(made)
     add_sources(made)
@@ -87,10 +76,10 @@ def parser() -> Parser:
 
 def run(given: argparse.Namespace, output: Output) -> int:
     """Checks files."""
-    form = given.format or ("json" if given.json else "text")
-    if given.json and form != "json" or given.lint and given.no_lint:
-        raise Usage("--json and --format, or --lint and --no-lint, don't go together")
-    if bool(given.operands) + given.staged + bool(given.list) > 1 and (given.list or not given.staged):
+    form = form_of(given)
+    if given.lint and given.no_lint:
+        raise Usage("--lint and --no-lint don't go together")
+    if given.list and (given.operands or given.staged):
         raise Usage("--list goes neither with --staged nor with operands")
     reader = reader_of(given, output)
     asked, skipped = which(given, reader)
@@ -102,27 +91,31 @@ def run(given: argparse.Namespace, output: Output) -> int:
     if not asked:
         folders = " and ".join(given.operands) or "."
         raise Undone(f"no zone file found below {folders}: {counted(skipped, 'file')} skipped" if not given.list else "the list is empty")
-    checker = Checker(reader, given)
-    came = list(at_once(asked, given.jobs, checker.came))
-    included = frozenset().union(*(it.included for it in came))
-    came = [it for it in came if not (it.asked.is_found and os.path.realpath(it.asked.source.text) in included)]
-    status = max(it.status for it in came)
-    bad = sum(bool(it.status) for it in came)
+    came = list(zip(asked, at_once(asked, given.jobs, Checker(reader, given).came)))
+    included = frozenset(path for _, it in came if isinstance(it, Came) for path in it.included)
+    came = [(it, what) for it, what in came if not (it.is_found and os.path.realpath(it.source.text) in included)]
+    bad = sum(bool(what.status) for _, what in came)
+    status = max(int(what.status) for _, what in came)
+    found = [it for _, what in came if isinstance(what, Came) for it in what.findings[: given.max_faults]]
     counts = {"read": len(came), "good": len(came) - bad, "bad": bad, "included": len(included), "skipped": skipped}
-    findings = [one for it in came for one in it.findings[: given.max_faults]]
-    if form == "json":
-        output.answer({"format": "zonectl-check/1", "status": int(status), "files": counts, "findings": [vars(it) for it in findings]},
-                      status, given.output)
-    else:
-        top = prefix(reader.access.limits) if form == "github" else ""
-        output.answer("".join(it.command(top) if form == "github" else it.lines() for it in findings), status, given.output)
-    for it in came:
-        if it.failure:
-            output.note(it.failure.sentence())
-        if len(it.findings) > given.max_faults:
-            output.note("more faults (--max-faults)", it.asked.source.text)
+    output.answer(shown(found, form, status, counts, reader), status, given.output)
+    for it, what in came:
+        if isinstance(what, Failure):
+            output.failed(what)
+        elif len(what.findings) > given.max_faults:
+            output.note("more faults (--max-faults)", it.source.text)
     output.note(f"{counted(len(came), 'file')}: {counts['good']} good, {bad} bad; {len(included)} included, {skipped} skipped", by="")
     return status
+
+
+def shown(found: list[Finding], form: str, status: int, counts: dict[str, int], reader: Reader) -> str | dict[str, Any]:
+    """Returns what is printed."""
+    if form == "json":
+        return {"format": "zonectl-check/1", "status": status, "files": counts, "findings": [it.object() for it in found]}
+    if form == "github":
+        top = prefix(reader.access.limits)
+        return "".join(it.command(top) for it in found)
+    return "".join(it.lines() for it in found)
 
 
 def which(given: argparse.Namespace, reader: Reader) -> tuple[list[Asked], int]:
@@ -150,13 +143,10 @@ def listed(path: str, reader: Reader) -> Iterator[Asked]:
     """Yields the lines `ZONE SOURCE` of a file. Raises Failure."""
     for number, line in reader.lines(path):
         zone, _, source = line.strip().partition(" ")
-        with about(path):
-            try:
-                yield Asked(source_of(source.strip()), absolute(zone))
-            except ValueError as error:
-                raise Undone(str(error), path, line=number) from None
-            except Usage as usage:
-                raise Undone(usage.text, path, line=number) from None
+        try:
+            yield Asked(source_of(source.strip()), absolute(zone))
+        except (ValueError, Usage) as error:
+            raise Undone(str(error), path, line=number) from None
 
 
 class Checker:
@@ -164,28 +154,23 @@ class Checker:
 
     def __init__(self, reader: Reader, given: argparse.Namespace) -> None:
         self.reader, self.most, self.is_strict = reader, given.max_faults, given.strict
-        self.servers: list[str] | None = None if given.no_lint else given.lint or list(lint.SERVERS)
-        self.is_of_all = not given.lint
+        self.servers: list[str] | None = given.lint
+        self.has_lint = not given.no_lint
 
     def came(self, asked: Asked) -> Came:
-        """Checks a source."""
-        try:
-            with about(asked.source.text):
-                return self._came(asked, dataclasses.replace(self.reader, origin=asked.zone or self.reader.origin))
-        except Failure as failure:
-            return Came(asked, [], failure)
-
-    def _came(self, asked: Asked, reader: Reader) -> Came:
-        source, it = asked.source, read(asked.source, reader.access)
-        if it.is_transfer:
-            return Came(asked, sorted_findings(self._linted(source, it, reader.judged(source, it), "")))
-        origin = reader.origin_of(source, it.octets)
-        found = faults_of(it.octets, origin, source.text, self.most + 1)
-        findings = list(self._of_mark(source, it)) + found.faults
-        if found.text is not None:
-            copy = reader.under(source, found.text, origin)
-            findings += sorted_findings(self._linted(source, it, copy, origin))
-        return Came(asked, findings, included=found.included)
+        """Checks a source. Raises Failure."""
+        source, reader = asked.source, dataclasses.replace(self.reader, origin=asked.zone or self.reader.origin)
+        with about(source.text):
+            it = read(source, reader.access)
+            if it.is_transfer:
+                return Came(list(self._linted(source, it, reader.judged(source, it), "")))
+            origin = reader.origin_of(source, it.octets)
+            found = faults_of(it.octets, origin, source.text, self.most + 1)
+            findings = list(self._of_mark(source, it)) + found.faults
+            if found.text is not None:
+                linted = self._linted(source, it, reader.under(source, found.text, origin), origin)
+                findings += sorted(linted, key=lambda it: it.line or 0)
+            return Came(findings, found.included)
 
     def _of_mark(self, source: Source, it: Read) -> Iterator[Finding]:
         if it.has_mark:
@@ -193,11 +178,11 @@ class Checker:
 
     def _linted(self, source: Source, it: Read, copy: Copy, origin: str) -> Iterator[Finding]:
         """Yields what lint finds in a zone."""
-        if self.servers is None or copy.rdclass != "IN":
+        if not self.has_lint or copy.rdclass != "IN":
             return
         places: spelling.Places | None = None
-        for problem in lint.problems(copy):
-            if self._judged(problem.rule):
+        for problem in lint.problems(copy, self.servers is None):
+            if lint.judged(problem.rule, self.servers):
                 if not it.is_transfer:
                     places = places or spelling.Places(it.octets, origin)
                 yield from self._finding(source, it, places.last(problem.records) if places else None, problem)
@@ -205,19 +190,10 @@ class Checker:
             for line, problem in spelling.problems(it.octets, origin):
                 yield from self._finding(source, it, line, problem)
 
-    def _judged(self, rule: str) -> tuple[str, list[str]] | None:
-        found = lint.judged(rule, self.servers or ())
-        return None if found and self.is_of_all and found != ("error", list(lint.SERVERS)) else found
-
     def _finding(self, source: Source, it: Read, line: int | None, problem: lint.Problem) -> Iterator[Finding]:
-        if found := self._judged(problem.rule):
+        if found := lint.judged(problem.rule, self.servers):
             level, names = found
             yield Finding(
                 file=source.text, line=line, level="error" if self.is_strict else level, rule=problem.rule.removesuffix("-host"),
-                text=f"{problem.owner}: {problem.text}" if problem.owner else problem.text,
-                source=source_line(it.octets, line) if line else None, servers=names)
-
-
-def sorted_findings(findings: Iterator[Finding]) -> list[Finding]:
-    """Returns findings by their lines."""
-    return sorted(findings, key=lambda it: it.line or 0)
+                text=f"{problem.owner}: {problem.text}" if problem.owner else problem.text, servers=names,
+                source=source_line(it.octets, line) if line else None, does="refused by" if level == "error" else "a warning of")

@@ -11,7 +11,7 @@ from ..difference import Difference, Ignored, difference_of
 from ..errors import Failure, Status, Undone, Usage
 from ..files import Change, changed_since
 from ..nsupdate import parts_of
-from ..options import Parser, add_output, add_sources, reader_of
+from ..options import Parser, add_output, add_sources, form_of, reader_of
 from ..outputs import Output
 from ..patch import patch_of
 from ..sources import File, Git, sources_of
@@ -67,9 +67,7 @@ def parser() -> Parser:
 
 def run(given: argparse.Namespace, output: Output) -> int:
     """Compares two copies, or the working tree with a revision."""
-    form = given.format or ("json" if given.json else "text")
-    if given.json and form != "json":
-        raise Usage(f"--json and --format={form} don't go together")
+    form = form_of(given)
     if given.parts and form != "nsupdate":
         raise Usage("--parts goes with --format=nsupdate")
     if given.since is not None:
@@ -115,8 +113,7 @@ def since(form: str, given: argparse.Namespace, output: Output) -> int:
                 copy = reader.copy(old if it.how == "removed" else new) if form == "json" else None
                 status = output.answer(one_sided(it, form, copy), Status.DIFFERENT)
         except Failure as failure:
-            output.note(failure.sentence())
-            status = failure.status
+            status = output.failed(failure)
         worst = max(worst, status)
     return worst
 

@@ -50,11 +50,11 @@ def parser() -> Parser:
     return made
 
 
-def sum_of(copy: Copy, is_folded: bool) -> Sum:
-    """Returns the digest of a copy."""
+def summed(copy: Copy, is_folded: bool) -> tuple[Copy, Sum]:
+    """Returns a copy and its digest."""
     text = folded_text(copy.text) if is_folded else copy.text
     canonical = engine.CANONICAL + "-folded" * is_folded
-    return Sum(hashlib.sha256(text).hexdigest(), canonical, copy.serial, copy.apex, copy.source)
+    return copy, Sum(hashlib.sha256(text).hexdigest(), canonical, copy.serial, copy.apex, copy.source)
 
 
 def run(given: argparse.Namespace, output: Output) -> int:
@@ -68,28 +68,18 @@ def run(given: argparse.Namespace, output: Output) -> int:
         raise Usage("a SOURCE is missing")
     if len(sources) > 1 and given.origin:
         raise Usage("--origin goes with one zone")
-    reader, worst, found = reader_of(given, output), 0, []
-    for it in at_once(sources, given.jobs, lambda source: summed(source, reader, given.fold)):
+    reader = reader_of(given, output)
+    worst, sums, lines = 0, [], ""
+    for it in at_once(sources, given.jobs, lambda source: summed(reader.copy(source), given.fold)):
         if isinstance(it, Failure):
-            output.note(it.sentence())
-            worst = max(worst, it.status)
-        else:
-            found.append(it)
-    return output.answer(
-        answer([object_of(it, copy) for copy, it in found], worst) if given.json else "".join(f"{it}\n" for _, it in found), worst,
-        given.output)
+            worst = max(worst, output.failed(it))
+            continue
+        sums.append(object_of(*it))
+        lines += f"{it[1]}\n"
+    return output.answer(answer(sums, worst) if given.json else lines, worst, given.output)
 
 
-def summed(source: Source, reader: Reader, is_folded: bool) -> tuple[Copy, Sum] | Failure:
-    """Returns the digest of a source, or why there is none."""
-    try:
-        copy = reader.copy(source)
-        return copy, sum_of(copy, is_folded)
-    except Failure as failure:
-        return failure
-
-
-def object_of(it: Sum, copy: Copy, **more: str) -> dict[str, Any]:
+def object_of(copy: Copy, it: Sum, **more: str) -> dict[str, Any]:
     """Returns a digest as an object."""
     return {"source": it.source, "zone": it.zone, "serial": it.serial, "records": copy.records, "canonical": it.canonical,
             "sha256": it.sha256, **more}
@@ -116,35 +106,28 @@ def stored(path: str, reader: Reader) -> Iterator[Sum]:
 def check(given: argparse.Namespace, output: Output) -> int:
     """Compares zones with stored digests, a line each."""
     reader = reader_of(given, output)
-    worst, lines, sums = 0, [], []
+    worst, lines, sums = 0, "", []
     stored_sums = list(stored(given.check, reader))
     for it, found in zip(stored_sums, at_once(stored_sums, given.jobs, lambda it: again(it, reader))):
         if isinstance(found, Failure):
-            output.note(found.sentence())
-            worst = max(worst, found.status)
+            worst = max(worst, output.failed(found))
             continue
         copy, now = found
         result = "same" if now == it else "one-serial" if now.serial == it.serial else "different"
         text = {"one-serial": alarm(it.serial), "different": f"different: serial {now.serial}, was {it.serial}"}.get(result, result)
         worst = max(worst, 0 if now == it else 1)
-        lines.append(f"{one_field(it.source)}: {text}\n")
-        sums.append(object_of(now, copy, result=result))
-    return output.answer(answer(sums, worst) if given.json else "".join(lines), worst, given.output)
+        lines += f"{one_field(it.source)}: {text}\n"
+        sums.append(object_of(copy, now, result=result))
+    return output.answer(answer(sums, worst) if given.json else lines, worst, given.output)
 
 
-def again(it: Sum, reader: Reader) -> tuple[Copy, Sum] | Failure:
-    """Returns the digest that the source of a line has now, or why there is none."""
+def again(it: Sum, reader: Reader) -> tuple[Copy, Sum]:
+    """Returns what the source of a line is now, and its digest. Raises Failure."""
     try:
-        copy = replace(reader, origin=_origin(it)).copy(source_of(it.source))
-        if copy.apex != it.zone:
-            raise Undone(f"it is the zone {copy.apex}, and was {it.zone}", it.source)
-        return copy, sum_of(copy, it.canonical.endswith("-folded"))
-    except Failure as failure:
-        return failure
-
-
-def _origin(it: Sum) -> str | None:
-    try:
-        return absolute(it.zone)
+        zone = absolute(it.zone)
     except ValueError:
-        return None
+        raise Undone(f"{it.zone} is no name of a zone", it.source) from None
+    copy = replace(reader, origin=zone).copy(source_of(it.source))
+    if copy.apex != it.zone:
+        raise Undone(f"it is the zone {copy.apex}, and was {it.zone}", it.source)
+    return summed(copy, it.canonical.endswith("-folded"))

@@ -28,6 +28,7 @@ def serial(text: str) -> tuple[bool, int]:
 def parser() -> Parser:
     """Returns the parser."""
     made = Parser("zonemd", "verify [OPTION].. SOURCE\n       zonectl zonemd add [OPTION].. SOURCE", ABOUT)
+    made.words = ("verify", "add")
     made.option("--sha512", action="store_true", help="add a digest of SHA-512, and not of SHA-384")
     made.option("--serial", type=serial, metavar="N|+1", help="change the serial of the SOA first: to N, or by a number (add)")
     made.option("--record", action="store_true", help="print the record alone (add)")
