@@ -1,6 +1,7 @@
 """What zonectl check and zonectl zonemd print: which files, faults, lint, annotations, JSON, digests."""
 from __future__ import annotations
 
+import dataclasses
 import hashlib
 import json
 import os
@@ -13,7 +14,7 @@ from pathlib import Path
 
 from zonectl_support import SMALL, InFolder, Ran, environment, ran, run_alone, see
 
-from zonectl import entries, lint
+from zonectl import entries, faults, lint
 
 TOP = Path(__file__).resolve().parents[2]
 BASE = "$TTL 1h\n@ SOA ns1 h 1 7200 900 1209600 300\n@ NS ns1\nns1 A 192.0.2.1\n"
@@ -165,11 +166,18 @@ class Faults(InFolder):
                          [9, "BadRdata", "CAA", "value", None, "nothing left", 5, "error", None])
 
     def test_notes_where_servers_differ(self) -> None:
-        for text, note in (("n 61 A 192.0.2.2\n", " (BIND, NSD and Knot load the zone and pick one TTL)"), ("n 60 A 192.0.2\n", ""),
-                           (f"n 60 TXT {'a' * 256}\n", " (BIND and NSD refuse the zone, Knot loads it)")):
-            self.write("a", SMALL + text)
-            self.assertTrue(ran("check", "a").out.splitlines()[0].endswith(("set" if "61" in text else "octets" if "TXT" in text else "type")
-                                                                          + note))
+        for text, wanted in (
+            ("n 61 A 192.0.2.2", "F41 DifferingTtl: the TTL differs from that of its record set "
+             "(BIND, NSD and Knot load the zone and pick one TTL)"),
+            (f"n 60 TXT {'a' * 256}", "F11 StringTooLong: a character-string has more than 255 octets "
+             "(BIND and NSD refuse the zone, Knot loads it)"),
+            ("n 60 A 192.0.2", "F9 BadRdata: the data doesn't fit its type"),
+        ):
+            self.write("a", f"{SMALL}{text}\n")
+            self.assertEqual(ran("check", "a").out.splitlines()[0], f"a:5: {wanted}")
+        fault = faults.Finding(file="a", line=1, fault=21, name="BadTtl", text="the TTL is malformed or out of range", item="2147483648")
+        self.assertTrue(fault.body.endswith(': "2147483648" (BIND, NSD and Knot load the zone, BIND with the TTL 0)'))
+        self.assertTrue(dataclasses.replace(fault, item="1x").body.endswith(': "1x"'))
 
     def test_a_refused_transfer(self) -> None:
         name = self.example("refused-cut-off.axfr")
@@ -188,9 +196,9 @@ class Faults(InFolder):
         self.assertEqual(ran("check", "--format=github", "../in/w.zone").out, "")
         self.write("in/w.zone", SMALL + "@ 60 MX 1 n%\n")
         it = ran("check", "--format=github", "--lint=bind", "w.zone")
-        self.assertEqual(it.out, "::error file=in/w.zone,line=5,title=host-name::x.: the mail server n%25.x. isn't a host name (refused by BIND)\n"
-                                 "::warning file=in/w.zone,line=5,title=mx-no-address::x.: the mail server n%25.x. has no address "
-                                 "(a warning of BIND)\n")
+        self.assertEqual(it.out, "::error file=in/w.zone,line=5,title=host-name::x.: the mail server n%25.x. isn't a host name "
+                                 "(refused by BIND)\n::warning file=in/w.zone,line=5,title=mx-no-address::x.: "
+                                 "the mail server n%25.x. has no address (a warning of BIND)\n")
 
     def test_json(self) -> None:
         self.write("a", SMALL + "w 60 A 192.0.2.2\nw 60 CNAME n\n")
@@ -288,7 +296,8 @@ class Lint(InFolder):
         self.assertEqual({rule: "".join(does) for rule, *does in rows}, lint.RULES)
 
     def test_places(self) -> None:
-        text = BASE + "$ORIGIN w.z.test.\n\n@ ( CNAME\n ns1 ) ; x\n$ORIGIN z.test.\nv A 192.0.2.3\nw ( 3600\n A ) 192.0.2.9\n\tA 192.0.2.8\nw A 192.0.2.9\n"
+        text = BASE + "$ORIGIN w.z.test.\n\n@ ( CNAME\n ns1 ) ; x\n$ORIGIN z.test.\nv A 192.0.2.3\nw ( 3600\n A ) 192.0.2.9\n" \
+            "\tA 192.0.2.8\nw A 192.0.2.9\n"
         self.assertEqual(self.found(text), [("13 cname-and-other", "error", list(lint.SERVERS))])
         self.write("z", BASE + "w 60 A 192.0.2.2\nw CNAME n\nw 60 A 192.0.2.2\n")
         self.assertEqual(ran("check", "-O", "z.test", "z").out.splitlines(), [
@@ -305,8 +314,8 @@ class Lint(InFolder):
         for lines in (*(it for it, _, _ in CASES), *GOOD_CASES):
             with self.subTest(lines):
                 found = self.found(f"{BASE}{lines}\n", "--lint")
-                for server, words in (("BIND", ["named-checkzone", "-k", "fail", "z.test", "z"]), ("Knot", ["kzonecheck", "-o", "z.test.", "z"])):
-                    refused = subprocess.run(words, capture_output=True).returncode != 0
+                for server, words in (("BIND", "named-checkzone -k fail z.test z"), ("Knot", "kzonecheck -o z.test. z")):
+                    refused = subprocess.run(words.split(), capture_output=True).returncode != 0
                     letters = "R" if server == "BIND" else "Rw"  # kzonecheck's status is 1 for its warnings too
                     self.assertEqual(refused, any(lint.RULES[rule][lint.SERVERS.index(server)] in letters
                                                   for rule in (it.split()[1] for it, _, _ in found)), server)
@@ -365,7 +374,8 @@ class Zonemd(InFolder):
         self.assertEqual((it.status, re.findall("ZONEMD (.*)", it.out)), (0, [f"2018031900 1 1 {self.digest}"]))
         self.assertEqual(it.out, ran("normalise", "-p", "zonemd.zone").out)
         self.assertEqual(ran("zonemd", "add", "zonemd.zone").out, it.out)
-        self.assertEqual(ran("zonemd", "add", "-O", "example", "--record", "without").out, f"example. 86400 IN ZONEMD 2018031900 1 1 {self.digest}\n")
+        self.assertEqual(ran("zonemd", "add", "-O", "example", "--record", "without").out,
+                         f"example. 86400 IN ZONEMD 2018031900 1 1 {self.digest}\n")
 
     def test_what_is_added_is_the_digest_of_the_wire_format(self) -> None:
         self.write("a", SMALL)
@@ -382,7 +392,8 @@ class Zonemd(InFolder):
             self.assertEqual(ran("zonemd", "verify", "added").status, 0)
 
     def test_serials(self) -> None:
-        for words, serial in ((["--serial", "4294967295"], 4294967295), (["--serial=+1"], 2018031901), (["--serial=+2147483647"], 4165515547)):
+        for words, serial in ((["--serial", "4294967295"], 4294967295), (["--serial=+1"], 2018031901),
+                              (["--serial=+2147483647"], 4165515547)):
             self.assertEqual(ran("zonemd", "add", *words, "zonemd.zone").out.split(" ", 7)[6], str(serial))
         self.write("last", Path("zonemd.zone").read_text().replace("2018031900 ( 1800", "4294967295 ( 1800"))
         self.assertEqual(ran("zonemd", "add", "--serial=+1", "-O", "example", "last").out.split(" ", 7)[6], "0")
@@ -397,6 +408,7 @@ class Zonemd(InFolder):
 
     def test_usage(self) -> None:
         for words in ("", "verify", "sign a", "verify a b", "verify --sha512 a", "verify --record a", "verify --serial=1 a", "add --json a",
-                      "add --serial=x a", "add --serial=4294967296 a", "add --serial=+0 a", "add --serial=-1 a", "add --serial=+2147483648 a"):
+                      "add --serial=x a", "add --serial=4294967296 a", "add --serial=+0 a", "add --serial=-1 a",
+                      "add --serial=+2147483648 a"):
             with self.subTest(words):
                 self.assertEqual(ran("zonemd", *words.split()).status, 2)

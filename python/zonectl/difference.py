@@ -147,10 +147,9 @@ def rrset_of(line: bytes) -> tuple[str, str, int | None]:
 def _rrsets(removed: Iterable[bytes], added: Iterable[bytes], near: list[list[bytes]]) -> list[RRset]:
     """Returns the RRsets of lines, in canonical order, with the TTLs of both sides."""
     found: dict[tuple[str, str, int | None], RRset] = {}
-    for line in removed:
-        found.setdefault(rrset_of(line), RRset(*rrset_of(line), line)).removed.append(line)
-    for line in added:
-        found.setdefault(rrset_of(line), RRset(*rrset_of(line), line)).added.append(line)
+    for name, lines in (("removed", removed), ("added", added)):
+        for line in lines:
+            getattr(found.setdefault(rrset_of(line), RRset(*rrset_of(line), line)), name).append(line)
     owners = {name: canonical_order(name) for name in {it.owner for it in found.values()}}
     for at, side in enumerate(near):
         for line in side:

@@ -17,8 +17,11 @@ from .texts import safe
 
 COLUMNS = 200
 NOTES = {  # of a fault that servers don't share
-    11: "BIND and NSD refuse the zone, Knot loads it", 40: "BIND and NSD refuse the zone, Knot loads it",
-    41: "BIND, NSD and Knot load the zone and pick one TTL", 43: "NSD refuses the zone; BIND and Knot load it without the record",
+    11: "BIND and NSD refuse the zone, Knot loads it",
+    21: "BIND, NSD and Knot load the zone, BIND with the TTL 0",
+    40: "BIND and NSD refuse the zone, Knot loads it",
+    41: "BIND, NSD and Knot load the zone and pick one TTL",
+    43: "NSD refuses the zone, BIND and Knot load it",
 }
 OUTSIDE = 43
 
@@ -57,7 +60,8 @@ class Finding:
         if self.rule:
             return f"{text} ({self.does} {', '.join(self.servers)})"
         note = NOTES.get(self.fault or 0)
-        return f"{text} ({note})" if note else text
+        is_too_great = self.fault != 21 or (self.item or "").isdigit()  # other TTLs are malformed
+        return f"{text} ({note})" if note and is_too_great else text
 
     def object(self) -> dict[str, Any]:
         """Returns it as JSON has it."""

@@ -97,9 +97,9 @@ def must_answer(message: bytes, query: Query) -> None:
 def capture(
     connection: Stream, query: Query, signatures: Signatures | None, limits: Limits, sink: Callable[[bytes], object],
 ) -> int:
-    """Hands messages to `sink`, each after its length, up to the one in which an SOA comes the second time.
+    """Hands messages to `sink`, each after its length, up to the one in which an SOA comes the second time. Returns how many came.
 
-    Returns how many came. With signatures they are held back until one covers them. Raises Stopped, WrongSignature, or what the connection raises.
+    With signatures they are held back until one covers them. Raises Stopped, WrongSignature, or what the connection raises.
     """
     frames, held = Frames(connection), bytearray()
     soas = octets = count = 0

@@ -55,5 +55,6 @@ def run(given: argparse.Namespace, output: Output) -> int:
     output.note(f"{what}, {duration(seconds)}", source.text)
     return output.answer({
         "format": "zonectl-fetch/1", "status": 0, "source": source.text, "zone": zone, "octets": len(kept),
-        "messages": messages if zone else None, "seconds": seconds, "signed": isinstance(source, Server) and access.key_of(source) is not None,
+        "messages": messages if zone else None, "seconds": seconds,
+        "signed": isinstance(source, Server) and access.key_of(source) is not None,
     } if given.json else "", Status.SAME)
