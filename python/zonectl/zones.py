@@ -3,7 +3,6 @@ from __future__ import annotations
 
 from collections.abc import Callable, Iterator
 from dataclasses import dataclass
-from typing import cast
 
 from . import engine, origin
 from .errors import Refusal, Undone, about
@@ -41,16 +40,15 @@ class Reader:
 
     def pair(self, first: Source, second: Source) -> tuple[Copy, Copy]:
         """Reads two sources of one zone. Files come before servers, which aren't asked for another zone. Raises Failure."""
-        urls = [it.zone if isinstance(it, Server) else None for it in (first, second)]
-        known, copies = [*urls], cast("list[Copy | None]", [None, None])
+        sides = first, second
+        urls = [it.zone if isinstance(it, Server) else None for it in sides]
+        zones, copies = [*urls], {}
         for at in sorted((0, 1), key=lambda at: urls[at] is not None):
-            if all(known):
-                _must_be_one((first.text, known[0]), (second.text, known[1]))
-            copy = copies[at] = self.copy((first, second)[at], urls[1 - at])
-            known[at] = copy.apex
-        one, other = copies
-        assert one and other
-        _must_be_one((first.text, one.apex), (second.text, other.apex))
+            _must_be_one(sides, zones)
+            copies[at] = self.copy(sides[at], urls[1 - at])
+            zones[at] = copies[at].apex
+        _must_be_one(sides, zones)
+        one, other = copies[0], copies[1]
         if one.rdclass != other.rdclass:
             raise Undone(f"{first.text} is of class {one.rdclass}, {second.text} of class {other.rdclass}: nothing to compare")
         return one, other
@@ -133,7 +131,7 @@ def path_of(source: Source) -> str:
     return ""
 
 
-def _must_be_one(first: tuple[str, str | None], second: tuple[str, str | None]) -> None:
-    """Raises Undone if two sources are of two zones. Each is its argument and its zone."""
-    if first[1] != second[1]:
-        raise Undone(f"{first[0]} is the zone {first[1]}, {second[0]} the zone {second[1]}: nothing to compare")
+def _must_be_one(sides: tuple[Source, Source], zones: list[str | None]) -> None:
+    """Raises Undone if two sources are of two zones, as far as these are known."""
+    if None not in zones and zones[0] != zones[1]:
+        raise Undone(f"{sides[0].text} is the zone {zones[0]}, {sides[1].text} the zone {zones[1]}: nothing to compare")

@@ -50,44 +50,61 @@ def parser() -> Parser:
     return made
 
 
-def summed(copy: Copy, is_folded: bool) -> tuple[Copy, Sum]:
-    """Returns a copy and its digest."""
-    text = folded_text(copy.text) if is_folded else copy.text
-    canonical = engine.CANONICAL + "-folded" * is_folded
+def run(given: argparse.Namespace, output: Output) -> int:
+    """Prints digests, or compares with those of a file."""
+    if given.check is not None and (given.operands or given.origin or given.fold):
+        raise Usage("with --check the lines name sources, zones and the text")
+    if given.check is None and not given.operands:
+        raise Usage("a SOURCE is missing")
+    if len(given.operands) > 1 and given.origin:
+        raise Usage("--origin goes with one zone")
+    sources, reader = sources_of(given.operands), reader_of(given, output)
+    wanted: list[Source | Sum] = [*sources, *(stored(given.check, reader) if given.check is not None else ())]
+    worst, lines, sums = 0, "", []
+    for it, found in zip(wanted, at_once(wanted, given.jobs, lambda it: summed(it, reader, given.fold))):
+        if isinstance(found, Failure):
+            worst = max(worst, output.failed(found))
+            continue
+        copy, now = found
+        if isinstance(it, Source):
+            lines += f"{now}\n"
+            sums.append(object_of(copy, now))
+            continue
+        result = "same" if now == it else "one-serial" if now.serial == it.serial else "different"
+        text = {"one-serial": alarm(it.serial), "different": f"different: serial {now.serial}, was {it.serial}"}.get(result, result)
+        worst = max(worst, 0 if now == it else 1)
+        lines += f"{one_field(it.source)}: {text}\n"
+        sums.append(object_of(copy, now, result=result))
+    found_sums = {"format": "zonectl-sum/1", "status": int(worst), "sums": sums}
+    return output.answer(found_sums if given.json else lines, worst, given.output)
+
+
+def summed(it: Source | Sum, reader: Reader, is_folded: bool) -> tuple[Copy, Sum]:
+    """Returns a source, or that of a line, and its digest now. Raises Failure."""
+    if isinstance(it, Source):
+        copy, canonical = reader.copy(it), engine.CANONICAL + "-folded" * is_folded
+    else:
+        copy, canonical = again(it, reader), it.canonical
+    text = folded_text(copy.text) if canonical.endswith("-folded") else copy.text
     return copy, Sum(hashlib.sha256(text).hexdigest(), canonical, copy.serial, copy.apex, copy.source)
 
 
-def run(given: argparse.Namespace, output: Output) -> int:
-    """Prints digests, or compares with those of a file."""
-    if given.check is not None:
-        if given.operands or given.origin or given.fold:
-            raise Usage("with --check the lines name sources, zones and the text")
-        return check(given, output)
-    sources = sources_of(given.operands)
-    if not sources:
-        raise Usage("a SOURCE is missing")
-    if len(sources) > 1 and given.origin:
-        raise Usage("--origin goes with one zone")
-    reader = reader_of(given, output)
-    worst, sums, lines = 0, [], ""
-    for it in at_once(sources, given.jobs, lambda source: summed(reader.copy(source), given.fold)):
-        if isinstance(it, Failure):
-            worst = max(worst, output.failed(it))
-            continue
-        sums.append(object_of(*it))
-        lines += f"{it[1]}\n"
-    return output.answer(answer(sums, worst) if given.json else lines, worst, given.output)
+def again(it: Sum, reader: Reader) -> Copy:
+    """Returns what the source of a line is now. Raises Failure."""
+    try:
+        zone = absolute(it.zone)
+    except ValueError:
+        raise Undone(f"{it.zone} is no name of a zone", it.source) from None
+    copy = replace(reader, origin=zone).copy(source_of(it.source))
+    if copy.apex != it.zone:
+        raise Undone(f"it is the zone {copy.apex}, and was {it.zone}", it.source)
+    return copy
 
 
 def object_of(copy: Copy, it: Sum, **more: str) -> dict[str, Any]:
     """Returns a digest as an object."""
     return {"source": it.source, "zone": it.zone, "serial": it.serial, "records": copy.records, "canonical": it.canonical,
             "sha256": it.sha256, **more}
-
-
-def answer(sums: list[dict[str, Any]], status: int) -> dict[str, Any]:
-    """Returns digests as one object."""
-    return {"format": "zonectl-sum/1", "status": status, "sums": sums}
 
 
 def stored(path: str, reader: Reader) -> Iterator[Sum]:
@@ -101,33 +118,3 @@ def stored(path: str, reader: Reader) -> Iterator[Sum]:
         octets = found[5].encode("utf-8", "surrogateescape").decode("latin-1")
         source = ESCAPED.sub(lambda it: chr(int(it[1], 16)), octets).encode("latin-1").decode("utf-8", "surrogateescape")
         yield Sum(found[1], found[2], int(found[3]), found[4], source)
-
-
-def check(given: argparse.Namespace, output: Output) -> int:
-    """Compares zones with stored digests, a line each."""
-    reader = reader_of(given, output)
-    worst, lines, sums = 0, "", []
-    stored_sums = list(stored(given.check, reader))
-    for it, found in zip(stored_sums, at_once(stored_sums, given.jobs, lambda it: again(it, reader))):
-        if isinstance(found, Failure):
-            worst = max(worst, output.failed(found))
-            continue
-        copy, now = found
-        result = "same" if now == it else "one-serial" if now.serial == it.serial else "different"
-        text = {"one-serial": alarm(it.serial), "different": f"different: serial {now.serial}, was {it.serial}"}.get(result, result)
-        worst = max(worst, 0 if now == it else 1)
-        lines += f"{one_field(it.source)}: {text}\n"
-        sums.append(object_of(copy, now, result=result))
-    return output.answer(answer(sums, worst) if given.json else lines, worst, given.output)
-
-
-def again(it: Sum, reader: Reader) -> tuple[Copy, Sum]:
-    """Returns what the source of a line is now, and its digest. Raises Failure."""
-    try:
-        zone = absolute(it.zone)
-    except ValueError:
-        raise Undone(f"{it.zone} is no name of a zone", it.source) from None
-    copy = replace(reader, origin=zone).copy(source_of(it.source))
-    if copy.apex != it.zone:
-        raise Undone(f"it is the zone {copy.apex}, and was {it.zone}", it.source)
-    return summed(copy, it.canonical.endswith("-folded"))
