@@ -104,6 +104,9 @@ class Which(InFolder):
         git("-c", "user.name=a", "-c", "user.email=a@b", "commit", "-qm", "x")
         git("add", ".")
         self.assertEqual(ran("check", "--staged", "x.zone").err, "zonectl: no zone file is staged: 0 files skipped\n")
+        self.write("in/db.x", FAULTY)
+        git("add", ".")
+        self.assertEqual(ran("check", "--staged").out.splitlines()[0], "in/db.x:5: F9 BadRdata: the data doesn't fit its type")
 
     def test_a_list(self) -> None:
         self.write("relative", SMALL.replace("$ORIGIN x.\n", ""))
@@ -374,6 +377,7 @@ class Zonemd(InFolder):
         self.assertEqual((it.status, re.findall("ZONEMD (.*)", it.out)), (0, [f"2018031900 1 1 {self.digest}"]))
         self.assertEqual(it.out, ran("normalise", "-p", "zonemd.zone").out)
         self.assertEqual(ran("zonemd", "add", "zonemd.zone").out, it.out)
+        self.assertEqual(re.findall("ZONEMD [0-9]+ 1 ([12])", ran("zonemd", "add", "--sha512", "zonemd.zone").out), ["2"])
         self.assertEqual(ran("zonemd", "add", "-O", "example", "--record", "without").out,
                          f"example. 86400 IN ZONEMD 2018031900 1 1 {self.digest}\n")
 
