@@ -59,6 +59,4 @@ class Examples(InFolder):
             self.assertEqual(len(dripping.queries), 1)
 
     def test_what_comes_later_says_so(self) -> None:
-        for name in ("check", "zonemd", "fleet"):
-            with self.subTest(name):
-                self.assertEqual(self.run_by_sh(f"zonectl {name}"), f"zonectl: the subcommand {name} isn't in this version\n[2]")
+        self.assertEqual(self.run_by_sh("zonectl fleet"), "zonectl: the subcommand fleet isn't in this version\n[2]")

@@ -5,15 +5,12 @@ import json
 import os
 import pty
 import random
-import re
 import resource
 import subprocess
 import unittest
-from collections.abc import Iterator
 from pathlib import Path
-from typing import Any
 
-from zonectl_support import EXAMPLES, SMALL, InFolder, Ran, command, environment, ran, run_alone, sends, serving
+from zonectl_support import EXAMPLES, SMALL, InFolder, Ran, command, environment, faults, ran, run_alone, see, sends, serving
 
 from zonectl import folding
 
@@ -458,27 +455,6 @@ class Files(InFolder):
         self.assertEqual(run_alone("--help", ZONENORM_LIBRARY="/none").status, 0)
 
 
-def faults(value: Any, schema: Any, at: str = "") -> Iterator[str]:
-    """Yields where a value isn't as a JSON Schema has it, for the words that the schemas of zonectl have."""
-    kinds: dict[str, Any] = {"object": dict, "array": list, "string": str, "integer": int, "number": (int, float), "boolean": bool, "null": type(None)}
-    names = schema.get("type", [])
-    names = [names] if isinstance(names, str) else names
-    if names and not any(isinstance(value, kinds[it]) and (it == "boolean" or not isinstance(value, bool)) for it in names):
-        yield f"{at}: not of type {names}"
-        return
-    if "const" in schema and value != schema["const"] or "enum" in schema and value not in schema["enum"]:
-        yield f"{at}: {value!r} isn't allowed"
-    if "pattern" in schema and not re.search(schema["pattern"], value) or "minimum" in schema and value is not None and value < 0:
-        yield f"{at}: {value!r} isn't right"
-    if isinstance(value, dict):
-        yield from (f"{at}.{name}: missing" for name in schema["required"] if name not in value)
-        for name, it in value.items():
-            yield from faults(it, schema["properties"][name], f"{at}.{name}")
-    if isinstance(value, list):
-        for number, it in enumerate(value):
-            yield from faults(it, schema["items"], f"{at}[{number}]")
-
-
 class Schemas(InFolder):
     """The JSON of each command is as its schema has it."""
 
@@ -487,33 +463,22 @@ class Schemas(InFolder):
         self.write("a", SMALL)
         self.write("b", SMALL.replace(" 1 ", " 2 ") + "w 60 RRSIG A 13 2 60 20260101000000 20250101000000 1 x. AAAA\nw 60 A 192.0.2.1\n")
 
-    def see(self, name: str, *arguments: str) -> Any:
-        """Returns the object of a run, which has to be one line in ASCII and fit its schema."""
-        it = ran(*arguments)
-        self.assertTrue(it.out.isascii() and it.out.count("\n") == 1, it)
-        found = json.loads(it.out)
-        schema = json.loads((Path(folding.__file__).parent / f"schemas/{name}.json").read_text())
-        self.assertEqual(schema["title"], f"zonectl-{name}/1")
-        self.assertEqual(list(faults(found, schema)), [])
-        self.assertEqual(found["status"], it.status)
-        return found
-
     def test_each(self) -> None:
-        self.see("diff", "diff", "--json", "a", "b")
-        self.see("diff", "diff", "--format=json", "a", "a")
-        self.see("diff", "diff", "--json", "-i", "serial,A,dnssec", "a", "b")
-        self.see("sum", "sum", "--json", "a", "none", "b")
-        self.see("normalise", "normalise", "--json", "b")
+        see(self, "diff", "diff", "--json", "a", "b")
+        see(self, "diff", "diff", "--format=json", "a", "a")
+        see(self, "diff", "diff", "--json", "-i", "serial,A,dnssec", "a", "b")
+        see(self, "sum", "sum", "--json", "a", "none", "b")
+        see(self, "normalise", "normalise", "--json", "b")
         self.write("S", ran("sum", "a").out)
-        self.assertEqual(self.see("sum", "sum", "--json", "--check", "S")["sums"][0]["result"], "same")
+        self.assertEqual(see(self, "sum", "sum", "--json", "--check", "S")["sums"][0]["result"], "same")
         self.write("a", SMALL + "w 60 A 192.0.2.1\n")
-        self.assertEqual(self.see("sum", "sum", "--json", "--check", "S")["sums"][0]["result"], "one-serial")
+        self.assertEqual(see(self, "sum", "sum", "--json", "--check", "S")["sums"][0]["result"], "one-serial")
         self.write("a", SMALL.replace(" 1 ", " 7 "))
-        self.assertEqual(self.see("sum", "sum", "--json", "--check", "S")["sums"][0]["result"], "different")
+        self.assertEqual(see(self, "sum", "sum", "--json", "--check", "S")["sums"][0]["result"], "different")
         with serving(sends((EXAMPLES / "example.axfr").read_bytes())) as server:
-            self.see("fetch", "fetch", "--json", "-o", "sent", f"axfr://127.0.0.1:{server.port}/example")
-        self.assertEqual(self.see("error", "normalise", "--json", "none")["source"], "none")
+            see(self, "fetch", "fetch", "--json", "-o", "sent", f"axfr://127.0.0.1:{server.port}/example")
+        self.assertEqual(see(self, "error", "normalise", "--json", "none")["source"], "none")
         self.write("c", SMALL + "n 61 A 192.0.2.2\n")
-        self.assertEqual(self.see("error", "diff", "--json", "a", "c")["line"], 5)
-        self.see("error", "diff", "--json")
-        self.see("error", "x", "--json")
+        self.assertEqual(see(self, "error", "diff", "--json", "a", "c")["line"], 5)
+        see(self, "error", "diff", "--json")
+        see(self, "error", "x", "--json")

@@ -103,7 +103,7 @@ class Origins(InFolder):
     def test_what_is_decided(self) -> None:
         def decided(name: str | None, text: str | None, preferred: str | None = None) -> str:
             try:
-                return origin.Evidence(name, text).origin(preferred)
+                return origin.decided(name, text, preferred)
             except Failure as failure:
                 return failure.text.partition(";")[0]
 
@@ -310,7 +310,7 @@ class CommandLines(unittest.TestCase):
     @unittest.skipUnless((TOP / "docs").is_dir(), "the documents aren't beside the tests")
     def test_each_option_is_in_the_page_and_the_completion(self) -> None:
         page = (TOP / "docs/zonectl.1").read_text().replace("\\-", "-")
-        known = set(re.findall(r"(?<![\w-])--?[a-zA-Z][a-z-]*", page))
+        known = set(re.findall(r"(?<![\w-])--?[a-zA-Z][a-z0-9-]*", page))
         options = {"-h", "--help", "-V", "--version"}
         for name in main.COMMANDS:
             options |= {it for action in main.module_of(name).parser().options() for it in action.option_strings}
@@ -323,7 +323,8 @@ class CommandLines(unittest.TestCase):
         stored = TOP / "docs/zonectl.bash"
         self.assertEqual(ran("completion", "bash").out, stored.read_text())
         for words, wanted in (("zonectl d", "diff"), ("zonectl sum --che", "--check"), ("zonectl diff --format g", "github"),
-                              ("zonectl diff --tls-n", "--tls-name --tls-no-verify")):
+                              ("zonectl diff --tls-n", "--tls-name --tls-no-verify"), ("zonectl zonemd v", "verify"),
+                              ("zonectl check --format g", "github"), ("zonectl diff -i d", "dnssec"), ("zonectl check --li", "--lint --list")):
             script = f'. {stored}; COMP_WORDS=({words}); COMP_CWORD=$((${{#COMP_WORDS[@]}} - 1)); _zonectl; echo "${{COMPREPLY[@]}}"'
             it = subprocess.run(["bash", "-c", script], capture_output=True, text=True)
             self.assertEqual((it.stdout.strip(), it.stderr), (wanted, ""))

@@ -3,7 +3,9 @@ from __future__ import annotations
 
 import contextlib
 import io
+import json
 import os
+import re
 import socket
 import socketserver
 import ssl
@@ -15,8 +17,9 @@ import threading
 import unittest
 from collections.abc import Callable, Iterator
 from pathlib import Path
-from typing import NamedTuple
+from typing import Any, NamedTuple
 
+import zonectl
 from zonectl.main import main
 
 HERE = Path(__file__).resolve().parent
@@ -84,6 +87,39 @@ class InFolder(unittest.TestCase):
     def assert_failed(self, it: Ran, status: int, err: str) -> None:
         """Sees that a run ended with a status and just this line on standard error."""
         self.assertEqual((it.status, it.err), (status, err + "\n"))
+
+
+def faults(value: Any, schema: Any, at: str = "") -> Iterator[str]:
+    """Yields where a value isn't as a JSON Schema has it, for the words that the schemas of zonectl have."""
+    kinds: dict[str, Any] = {"object": dict, "array": list, "string": str, "integer": int, "number": (int, float), "boolean": bool, "null": type(None)}
+    names = schema.get("type", [])
+    names = [names] if isinstance(names, str) else names
+    if names and not any(isinstance(value, kinds[it]) and (it == "boolean" or not isinstance(value, bool)) for it in names):
+        yield f"{at}: not of type {names}"
+        return
+    if "const" in schema and value != schema["const"] or "enum" in schema and value not in schema["enum"]:
+        yield f"{at}: {value!r} isn't allowed"
+    if "pattern" in schema and not re.search(schema["pattern"], value) or "minimum" in schema and value is not None and value < 0:
+        yield f"{at}: {value!r} isn't right"
+    if isinstance(value, dict):
+        yield from (f"{at}.{name}: missing" for name in schema["required"] if name not in value)
+        for name, it in value.items():
+            yield from faults(it, schema["properties"][name], f"{at}.{name}")
+    if isinstance(value, list):
+        for number, it in enumerate(value):
+            yield from faults(it, schema["items"], f"{at}[{number}]")
+
+
+def see(test: unittest.TestCase, name: str, *arguments: str) -> Any:
+    """Returns the object of a run, which has to be one line in ASCII and fit its schema."""
+    it = ran(*arguments)
+    test.assertTrue(it.out.isascii() and it.out.count("\n") == 1, it)
+    found = json.loads(it.out)
+    schema = json.loads((Path(zonectl.__file__).parent / f"schemas/{name}.json").read_text())
+    test.assertEqual(schema["title"], f"zonectl-{name}/1")
+    test.assertEqual(list(faults(found, schema)), [])
+    test.assertEqual(found["status"], it.status)
+    return found
 
 
 def frames(octets: bytes) -> Iterator[bytes]:

@@ -4,6 +4,7 @@ from __future__ import annotations
 import math
 import re
 import time
+from collections.abc import Callable
 from dataclasses import dataclass, field
 
 from .errors import Undone
@@ -28,6 +29,17 @@ def octets(text: str) -> int:
     number = int(found[1]) * SIZES[found[2]] if found else 0
     if not 1 <= number <= MOST_OCTETS:
         raise ValueError(f"not a size from 1 to 1G: {text} (octets, or a number with K, M or G)")
+    return number
+
+
+def whole(most: int) -> Callable[[str], int]:
+    """Returns what reads a number from 1 to `most`. That raises ValueError."""
+
+    def number(text: str) -> int:
+        if not re.fullmatch("[0-9]{1,9}", text) or not 1 <= int(text) <= most:
+            raise ValueError(f"not a number from 1 to {most}: {text}")
+        return int(text)
+
     return number
 
 

@@ -38,8 +38,8 @@ def network_reason(error: OSError) -> str:
     return REASONS.get(error.errno or 0) or system_reason(error)
 
 
-class Connection:
-    """A connection to a server."""
+class Connection(io.RawIOBase):
+    """A connection to a server, which http.client takes for a socket and for its file."""
 
     def __init__(self, connected: socket.socket, clock: Clock) -> None:
         self.socket, self.clock = connected, clock
@@ -65,36 +65,24 @@ class Connection:
             self.socket.sendall(octets)
 
     def makefile(self, _mode: str) -> io.BufferedReader:
-        """Returns the connection as a file to read, as http.client wants it."""
-        return io.BufferedReader(_Raw(self))
-
-    def close(self) -> None:
-        """Closes the connection. Nothing is sent."""
-        self.socket.close()
-
-
-class _Raw(io.RawIOBase):
-    """The octets of a connection as a raw file."""
-
-    def __init__(self, connection: Connection) -> None:
-        self.connection = connection
+        """Returns the connection as a file to read."""
+        return io.BufferedReader(self)
 
     def readable(self) -> bool:
+        """Returns True."""
         return True
 
     def readinto(self, room: Any) -> int:
-        octets = self.connection.recv(len(room))
-        room[: len(octets)] = octets
-        return len(octets)
+        """Reads into a buffer, and returns how many octets came."""
+        with self._waiting():
+            return self.socket.recv_into(room)
+
+    def close(self) -> None:
+        """Closes nothing: http.client does so before the body is read."""
 
 
 def addresses(host: str, port: int, clock: Clock) -> Sequence[tuple[Any, ...]]:
     """Returns the addresses of a host. A name is looked up in a thread, since nothing else bounds how long that takes."""
-
-    try:
-        return socket.getaddrinfo(host, port, type=socket.SOCK_STREAM, flags=socket.AI_NUMERICHOST)
-    except (OSError, UnicodeError):
-        pass
     found: list[Sequence[tuple[Any, ...]]] = []
 
     def look_up() -> None:
@@ -151,4 +139,4 @@ def connected(host: str, port: int, name: str, context: ssl.SSLContext | None, c
     try:
         yield connection
     finally:
-        connection.close()
+        connection.socket.close()

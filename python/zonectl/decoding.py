@@ -11,7 +11,7 @@ from typing import NamedTuple
 
 from .bounds import MOST_OCTETS
 from .folding import NAMES
-from .messages import AXFR, HEADER, SOA, Malformed, expanded_name, question
+from .messages import AXFR, SOA, Malformed, after_questions, expanded_name, question, records
 from .names import shown_name
 from .types import TYPES
 
@@ -52,17 +52,13 @@ def master_file(octets: bytes) -> Decoded | None:
     is_closed = False
     try:
         for record in _records(octets):
-            if is_closed or first is None and record.kind != SOA:
+            is_again = record.kind == SOA and first is not None
+            if is_closed or (first or record).kind != SOA or is_again and record != first or size > MOST_OCTETS:
                 return None
-            if record.kind == SOA and first and record != first:
-                return None
-            is_closed = first is not None and record.kind == SOA
-            first = first or record
+            first, is_closed = first or record, is_again
             lines.append(record.line())
             size += len(lines[-1])
             kinds.add(record.kind)
-            if size > MOST_OCTETS:
-                return None
     except (IndexError, struct.error, Malformed):
         return None
     names = [name for number, name in OF_F33.items() if number in kinds]
@@ -90,21 +86,16 @@ def _records(octets: bytes) -> Iterator[Record]:
 
 def _answers(message: bytes) -> Iterator[Record]:
     """Yields the answers of a message. A TSIG record may follow them."""
-    questions, answers, authority, additional = struct.unpack_from("!4H", message, 4)
-    if authority:
-        raise Malformed("the section counts don't fit a transfer")
-    at = HEADER
-    for _ in range(questions):
-        at = expanded_name(message, at)[1] + 4
-    for number in range(answers + additional):
-        owner, at = expanded_name(message, at)
-        kind, rdclass, ttl, length = struct.unpack_from("!HHIH", message, at)
-        at += 10 + length
-        if at > len(message):
-            raise IndexError
-        if number < answers:
-            yield Record(owner, kind, rdclass, ttl, _data(message, kind, at - length, at))
-    if at != len(message):
+    end = after_questions(message)
+    for begin, section, kind in records(message, 3):
+        owner, at = expanded_name(message, begin)
+        _, rdclass, ttl, length = struct.unpack_from("!HHIH", message, at)
+        end = at + 10 + length
+        if section == 2 or end > len(message):
+            raise Malformed("the records don't fit a transfer")
+        if section == 1:
+            yield Record(owner, kind, rdclass, ttl, _data(message, kind, at + 10, end))
+    if end != len(message):
         raise Malformed("octets follow the last record")
 
 

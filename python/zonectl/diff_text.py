@@ -76,25 +76,26 @@ def github_of(found: Difference, most: int | None) -> str:
 def json_of(found: Difference, most: int | None) -> dict[str, Any]:
     """Returns the difference as an object, with at most `most` RRsets."""
     shown = found.rrsets if most is None else found.rrsets[:most]
-    sides = (
-        {"source": copy.source, "serial": copy.serial, "records": copy.records, "only": only, "decoder": copy.decoder}
-        for copy, only in ((found.a, found.only_a), (found.b, found.only_b)))
-    a, b = sides
     return {
         "format": "zonectl-diff/1", "status": 1 if found.rrsets else 0, "zone": found.a.apex, "class": found.a.rdclass,
         "alarm": "one-serial" if found.is_alarm else None, "serials": found.order, "exact": found.is_exact,
-        "ignored": list(found.ignored.names), "a": a, "b": b, "rrsets": [_rrset(it) for it in shown],
+        "ignored": list(found.ignored.names), "a": _side(found.a, found.only_a), "b": _side(found.b, found.only_b),
+        "rrsets": [_rrset(it) for it in shown],
         "omitted": len(found.rrsets) - len(shown),
     }
 
 
 def json_of_one(copy: Copy, is_added: bool) -> dict[str, Any]:
     """Returns the object of a zone that one side alone has; what the other would say is null."""
-    side = {"source": copy.source, "serial": copy.serial, "records": copy.records, "only": copy.records, "decoder": copy.decoder}
+    side = _side(copy, copy.records)
     return {
         "format": "zonectl-diff/1", "status": 1, "zone": copy.apex, "class": copy.rdclass, "alarm": None, "serials": None, "exact": None,
         "ignored": [], "a": None if is_added else side, "b": side if is_added else None, "rrsets": [], "omitted": 0,
     }
+
+
+def _side(copy: Copy, only: int) -> dict[str, Any]:
+    return {"source": copy.source, "serial": copy.serial, "records": copy.records, "only": only, "decoder": copy.decoder}
 
 
 def _rrset(it: RRset) -> dict[str, Any]:

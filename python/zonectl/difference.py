@@ -1,7 +1,7 @@
 """The difference of two copies of a zone, RRset by RRset."""
 from __future__ import annotations
 
-from collections.abc import Collection, Iterable
+from collections.abc import Iterable, Iterator
 from dataclasses import dataclass, field
 from itertools import groupby
 
@@ -76,10 +76,20 @@ class Sides:
     def __init__(self, is_exact: bool, ignored: Ignored) -> None:
         self.is_exact, self.ignored = is_exact, ignored
 
-    def left_in(self, lines: Iterable[bytes]) -> list[bytes]:
-        """Returns the lines whose types aren't ignored."""
+    def apart(self, a: Copy, b: Copy) -> tuple[list[list[bytes]], list[list[bytes]]]:
+        """Returns of each side the lines that the other hasn't, and all lines of their owners; without types that are ignored."""
         types = self.ignored.types
-        return [it for it in lines if it.split(b" ", 4)[3] not in types] if types else list(lines)
+        lines = [[line for line in it.text.split(b"\n")[:-1] if not types or line.split(b" ", 4)[3] not in types] for it in (a, b)]
+        sets = [set(it) for it in lines]
+        rest = [[line for line in lines[at] if line not in sets[1 - at]] for at in (0, 1)]
+        owners = {it.split(b" ", 1)[0] for side in rest for it in side}
+        return rest, [[it for it in side if it.split(b" ", 1)[0] in owners] for side in lines]
+
+    def alone(self, rest: list[list[bytes]], near: list[list[bytes]]) -> Iterator[list[bytes]]:
+        """Yields of each side the lines to which none of the other is equal here."""
+        for at in (0, 1):
+            equal = set(map(self.key, near[1 - at]))
+            yield [it for it in rest[at] if self.key(it) not in equal]
 
     def key(self, line: bytes) -> bytes:
         """Returns what is equal for two lines that are equal here."""
@@ -96,31 +106,20 @@ class Sides:
         return line
 
 
-def _alone(lines: list[bytes], equal: Collection[bytes], sides: Sides) -> list[bytes]:
-    """Returns the lines to which no line of the other side is equal, each once. `equal` has the other side's keys."""
-    found: dict[bytes, bytes] = {}
-    for line in lines:
-        if (key := sides.key(line)) not in equal:
-            found.setdefault(key, line)
-    return list(found.values())
-
-
 def difference_of(a: Copy, b: Copy, is_exact: bool, ignored: Ignored) -> Difference:
     """Returns what differs. Equal texts are compared as bytes."""
     found = Difference(a, b, is_exact, ignored, [])
     if a.text == b.text:
         return found
     sides = Sides(is_exact, ignored)
-    lines = [sides.left_in(it.text.split(b"\n")[:-1]) for it in (a, b)]
-    sets = [set(it) for it in lines]
-    rest = [[line for line in lines[at] if line not in sets[1 - at]] for at in (0, 1)]
-    owners = {it.split(b" ", 1)[0] for side in rest for it in side}
-    near = [[it for it in side if it.split(b" ", 1)[0] in owners] for side in lines]
-    keys = [{sides.key(it) for it in side} for side in near]
-    alone = [_alone(rest[at], keys[1 - at], sides) for at in (0, 1)]
+    rest, near = sides.apart(a, b)
+    alone: list[dict[bytes, bytes]] = [{}, {}]  # each line once
+    for found_alone, lines in zip(alone, sides.alone(rest, near)):
+        for line in lines:
+            found_alone.setdefault(sides.key(line), line)
     if not is_exact:
         found.other_case = _of_other_case(rest[0], near[1], sides)
-    found.rrsets = _rrsets(alone[0], alone[1], near)
+    found.rrsets = _rrsets(alone[0].values(), alone[1].values(), near)
     for it in found.rrsets:
         found.only_a += len(it.removed)
         found.only_b += len(it.added)
@@ -145,13 +144,12 @@ def rrset_of(line: bytes) -> tuple[str, str, int | None]:
     return owner, kind, covered
 
 
-def _rrsets(removed: list[bytes], added: list[bytes], near: list[list[bytes]]) -> list[RRset]:
+def _rrsets(removed: Iterable[bytes], added: Iterable[bytes], near: list[list[bytes]]) -> list[RRset]:
     """Returns the RRsets of lines, in canonical order, with the TTLs of both sides."""
     found: dict[tuple[str, str, int | None], RRset] = {}
-    for line in removed:
-        found.setdefault(rrset_of(line), RRset(*rrset_of(line), line)).removed.append(line)
-    for line in added:
-        found.setdefault(rrset_of(line), RRset(*rrset_of(line), line)).added.append(line)
+    for name, lines in (("removed", removed), ("added", added)):
+        for line in lines:
+            getattr(found.setdefault(rrset_of(line), RRset(*rrset_of(line), line)), name).append(line)
     owners = {name: canonical_order(name) for name in {it.owner for it in found.values()}}
     for at, side in enumerate(near):
         for line in side:

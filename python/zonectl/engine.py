@@ -6,7 +6,7 @@ from __future__ import annotations
 
 import re
 from collections.abc import Iterator
-from typing import NoReturn
+from typing import NamedTuple, NoReturn
 
 from .errors import Refusal, Undone
 
@@ -19,15 +19,15 @@ except ImportError as _error:
 VERSION = zonenorm.__version__
 CANONICAL = "canonical-1"  # the version of the canonical text
 PLACE = re.compile(r" (?:at line \d+|in the input)(?=: )")
-INCLUDE, DIRECTIVE, UNKNOWN_TYPE, COMPRESSIBLE = 16, 17, 7, 33
+VERIFIED = "verified"
+UNKNOWN_TYPE, COMPRESSIBLE = 7, 33
 
 
 def of_file(octets: bytes, origin: str) -> bytes:
-    """Returns the canonical text of a master file. Raises Refusal, or Undone for what this version doesn't read."""
+    """Returns the canonical text of a master file. Raises Refusal."""
     try:
         return zonenorm.normalise(octets, origin)
     except zonenorm.Refused as refused:
-        _unread(octets, refused)
         _refuse(_without_data(octets, origin, refused))
 
 
@@ -59,18 +59,6 @@ def _without_data(octets: bytes, origin: str, refused: zonenorm.Refused) -> zone
     return refused
 
 
-def _unread(octets: bytes, refused: zonenorm.Refused) -> None:
-    """Raises Undone for a directive that a later version reads."""
-    if refused.number not in (INCLUDE, DIRECTIVE) or refused.line is None:
-        return
-    line = octets.split(b"\n", refused.line)[refused.line - 1]
-    found = re.match(rb"\$(?:INCLUDE|GENERATE)\b", line, re.I)
-    if found:
-        what = found[0].decode().upper()
-        raise Undone(f"{what} isn't read by zonenorm {VERSION}; join the files first (named-compilezone -f text -F text)",
-                     line=refused.line)
-
-
 def presentation(text: bytes) -> bytes:
     """Returns canonical lines with further types in presentation format, line by line."""
     return zonenorm.words(text)
@@ -82,25 +70,55 @@ def presented(text: bytes) -> Iterator[list[str]]:
         yield [*line.split(" ", 4), ""][:5]
 
 
-def verify(text: bytes) -> str:
-    """Returns why the ZONEMD records of a canonical text don't verify it; nothing if one does (RFC 8976)."""
-    is_verified, verdicts = zonenorm.verify(text, ".", words=False)
-    if is_verified:
-        return ""
+class Verdict(NamedTuple):
+    """What a ZONEMD record at the apex comes to (RFC 8976). Scheme and algorithm are None where the data is too short for them."""
+
+    scheme: int | None
+    algorithm: int | None
+    verdict: str  # `verified`, or why it isn't
+    line: str  # which says so, as zonedigest prints it
+
+
+class Verification(NamedTuple):
+    """What the ZONEMD records at the apex of a zone come to, in canonical order."""
+
+    serial: int
+    records: list[Verdict]
+
+    @property
+    def is_verified(self) -> bool:
+        """Whether one of them verifies the zone."""
+        return any(it.verdict == VERIFIED for it in self.records)
+
+    def lines(self) -> list[str]:
+        """Returns the line of the first that verifies the zone; or a line of each, which says why it doesn't."""
+        for it in self.records:
+            if it.verdict == VERIFIED:
+                return [f"verified: serial {self.serial}, SIMPLE, {'SHA-384' if it.algorithm == 1 else 'SHA-512'}"]
+        return [f"not verified: {it.line}" for it in self.records] or ["not verified: no ZONEMD record at the apex"]
+
+
+def verify(text: bytes) -> Verification:
+    """Verifies a canonical text against its ZONEMD records."""
     apex, serial = text.split(b" ", 1)[0], text.split(b" ", 7)[6].decode()
     lines = re.findall(rb"^" + re.escape(apex) + rb" \d+ \S+ TYPE63 \\# \d+ ?([0-9a-f]*)$", text, re.M)
-    reasons = [_unverified(bytes.fromhex(line.decode()), verdict, serial) for line, verdict in zip(lines, verdicts)]
-    return "not verified: " + ("; ".join(reasons) or "no ZONEMD record at the apex")
+    verdicts = zonenorm.verify(text, ".", words=False)[1]
+    return Verification(int(serial), [_verdict(bytes.fromhex(it.decode()), verdict, serial) for it, verdict in zip(lines, verdicts)])
 
 
-def _unverified(data: bytes, verdict: str, serial: str) -> str:
-    """Returns why a ZONEMD record doesn't verify its zone, as zonedigest prints it."""
+def digested(text: bytes, is_sha512: bool) -> bytes:
+    """Returns the ZONEMD record of a canonical text, as a canonical line."""
+    return zonenorm.digest(text, ".", algorithm="SHA512" if is_sha512 else "SHA384", words=False)
+
+
+def _verdict(data: bytes, verdict: str, serial: str) -> Verdict:
     if len(data) < 6:
-        return f"ZONEMD \\# {len(data)} {data.hex()}".rstrip() + ": the data is malformed"
+        return Verdict(None, None, verdict, f"ZONEMD \\# {len(data)} {data.hex()}".rstrip() + ": the data is malformed")
     scheme, algorithm = data[4], data[5]
     reasons = {
         "other serial": f"the serial isn't {serial}", "unknown scheme": f"scheme {scheme} isn't supported",
         "unknown algorithm": f"hash algorithm {algorithm} isn't supported", "malformed": "the data is malformed",
         "repeated": "another record has the same scheme and hash algorithm", "differs": "the digest differs",
     }
-    return f"ZONEMD {int.from_bytes(data[:4], 'big')} {scheme} {algorithm}: {reasons.get(verdict, verdict)}"
+    line = f"ZONEMD {int.from_bytes(data[:4], 'big')} {scheme} {algorithm}: {reasons.get(verdict, verdict)}"
+    return Verdict(scheme, algorithm, verdict, line)

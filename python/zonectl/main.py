@@ -4,6 +4,7 @@ from __future__ import annotations
 import argparse
 import contextlib
 import importlib
+import json
 import os
 import signal
 import sys
@@ -15,10 +16,11 @@ from .errors import Failure, Status, Undone, Usage, system_reason
 from .outputs import Output, say, to_standard_output
 
 COMMANDS = {  # and the module of each
-    "normalise": "normalise", "normalize": "normalise", "diff": "diff", "sum": "sum", "fetch": "fetch", "completion": "completion",
+    "normalise": "normalise", "normalize": "normalise", "diff": "diff", "sum": "sum", "check": "check",
+    "zonemd": "zonemd", "fetch": "fetch", "completion": "completion",
 }
 SIGNALS = (signal.SIGINT, signal.SIGHUP, signal.SIGTERM)
-LATER = ("check", "zonemd", "fleet")
+LATER = ("fleet",)
 HELP = """\
 usage: zonectl COMMAND [OPTION].. SOURCE..
 
@@ -26,7 +28,9 @@ Are two copies of a DNS zone the same, and if not, what differs?
 
   normalise SOURCE            print the canonical text of a zone
   diff A B                    print how two copies of a zone differ
+  check [SOURCE|FOLDER..]     print what is wrong with zone files, and which servers refuse them
   sum SOURCE..                print the digest of each zone; sum --check FILE compares
+  zonemd verify|add SOURCE    verify a zone against its ZONEMD record, or give it one
   fetch SOURCE -o FILE        keep the octets that a server sends
   completion bash             print a completion for the shell
 
@@ -87,10 +91,10 @@ def failed(failure: Failure, output: Output, is_json: bool) -> int:
     say(f"zonectl: {failure.sentence()}")
     if is_json:
         with contextlib.suppress(Failure):  # where standard output is what failed
-            output.json({
+            output.result(json.dumps({
                 "format": "zonectl-error/1", "status": int(failure.status), "source": failure.source, "fault": failure.fault or None,
                 "name": failure.name, "line": failure.line, "text": failure.text,
-            })
+            }) + "\n")
     return failure.status
 
 

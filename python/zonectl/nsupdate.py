@@ -10,7 +10,7 @@ or RRset is deleted and added in one part.
 from __future__ import annotations
 
 from collections.abc import Callable
-from dataclasses import dataclass, field
+from dataclasses import dataclass
 
 from .difference import Difference, Sides
 from .errors import Undone
@@ -39,66 +39,41 @@ class Line:
         return cls(text, owner, int(ttl), rest.split(" ", 2)[1], f"{owner} {rest}")
 
 
-@dataclass
-class Units:
-    """Commands by rank; those of one unit belong into one part."""
+class Plan:
+    """The commands by rank; those of one unit belong into one part. Made of the lines that differ, without the SOA."""
 
-    ranks: list[dict[str, list[str]]] = field(default_factory=lambda: [{} for _ in range(8)])
+    def __init__(self, gone: list[Line], come: list[Line], ttls: list[dict[tuple[str, str], int]]) -> None:
+        self.ranks: list[dict[str, list[str]]] = [{} for _ in range(8)]
+        self.gone, self.come, self.ttls = gone, come, ttls
+        self.lost = {it.owner for it in gone if it.kind == "CNAME"}
+        self.got = {it.owner for it in come if it.kind == "CNAME"}
+        self.both = {it.owner for it in gone} & {it.owner for it in come}
 
-    def put(self, rank: int, unit: str, command: str) -> None:
-        """Adds a command to its unit."""
+    def put(self, rank: int, line: Line, command: str) -> None:
+        """Adds a command at a rank, or where what its owner or RRset changes belongs together."""
+        at, unit = (line.owner, line.kind), command
+        old, new = (ttls.get(at) for ttls in self.ttls)
+        if line.owner in self.both and line.owner in self.lost | self.got:
+            rank, unit = 5 if line.owner in self.got else 2, line.owner
+        elif None not in (old, new) and (old != new or line.kind == DNAME):
+            rank, unit = 3, " ".join(at)
         self.ranks[rank].setdefault(unit, []).append(f"update {command}\n")
 
 
-@dataclass
-class Changed:
-    """The lines that differ, without the SOA, and what they say of owners and RRsets."""
-
-    gone: list[Line]
-    come: list[Line]
-    ttls: tuple[dict[tuple[str, str], int], dict[tuple[str, str], int]]
-
-    def __post_init__(self) -> None:
-        self.lost = {it.owner for it in self.gone if it.kind == "CNAME"}
-        self.got = {it.owner for it in self.come if it.kind == "CNAME"}
-        self.both = {it.owner for it in self.gone} & {it.owner for it in self.come}
-
-    def put(self, units: Units, rank: int, line: Line, command: str) -> None:
-        """Adds a command at a rank, or where what its owner or RRset changes belongs together."""
-        at = line.owner, line.kind
-        old, new = (ttls.get(at) for ttls in self.ttls)
-        if line.owner in self.both and line.owner in self.lost | self.got:
-            units.put(5 if line.owner in self.got else 2, line.owner, command)
-        elif None not in (old, new) and (old != new or line.kind == DNAME):
-            units.put(3, " ".join(at), command)
-        else:
-            units.put(rank, command, command)
-
-
-def _changed(a: Copy, b: Copy, sides: Sides) -> Changed:
-    lines = [sides.left_in(it.text.split(b"\n")[1:-1]) for it in (a, b)]
-    sets = [set(it) for it in lines]
-    rest = [[it for it in lines[at] if it not in sets[1 - at]] for at in (0, 1)]
-    owners = {it.split(b" ", 1)[0] for side in rest for it in side}
-    near = [[it for it in side if it.split(b" ", 1)[0] in owners] for side in lines]
-    keys = [set(map(sides.key, side)) for side in near]
-    gone, come = ([Line.of(it) for it in rest[at] if sides.key(it) not in keys[1 - at]] for at in (0, 1))
-    old, new = ({(it.owner, it.kind): it.ttl for it in map(Line.of, side)} for side in near)
-    return Changed(gone, come, (old, new))
-
-
-def _units(changed: Changed, apex: str) -> Units:
-    units, deleted = Units(), {it.key for it in changed.gone}
-    of_apex = [it for it in changed.come if (it.owner, it.kind) == (apex, "NS")]
-    for it in of_apex:
-        changed.put(units, 3, it, f"add {it.text}")
-    for it in changed.gone:
-        rank = 4 if it.kind == "NS" else 7 if it.kind in ADDRESSES else 6
-        changed.put(units, rank, it, f"delete {it.key}")
-    for it in changed.come:
-        if (it.owner, it.kind) != (apex, "NS") or it.key in deleted:  # which would take a new TTL's record along
-            changed.put(units, 1 if it.kind in ADDRESSES else 3, it, f"add {it.text}")
-    return units
+def _plan(a: Copy, b: Copy, sides: Sides) -> Plan:
+    rest, near = sides.apart(a, b)
+    gone, come = ([it for it in map(Line.of, side) if it.kind != "SOA"] for side in sides.alone(rest, near))
+    plan = Plan(gone, come, [{(it.owner, it.kind): it.ttl for it in map(Line.of, side)} for side in near])
+    deleted, of_apex = {it.key for it in gone}, (a.apex, "NS")
+    for it in come:
+        if (it.owner, it.kind) == of_apex:
+            plan.put(3, it, f"add {it.text}")
+    for it in gone:
+        plan.put(4 if it.kind == "NS" else 7 if it.kind in ADDRESSES else 6, it, f"delete {it.key}")
+    for it in come:
+        if (it.owner, it.kind) != of_apex or it.key in deleted:  # which would take a new TTL's record along
+            plan.put(1 if it.kind in ADDRESSES else 3, it, f"add {it.text}")
+    return plan
 
 
 def _size(commands: list[str]) -> int:
@@ -121,7 +96,7 @@ def parts_of(found: Difference, note: Callable[[str], object]) -> list[str]:
         taken += size
         parts[-1].extend(commands)
 
-    for units in _units(_changed(a, b, sides), a.apex).ranks:
+    for units in _plan(a, b, sides).ranks:
         for unit, commands in units.items():
             if _size(commands) > MOST:
                 raise Undone(f"no message holds what changes at once: {unit}")

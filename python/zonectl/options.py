@@ -3,13 +3,12 @@ from __future__ import annotations
 
 import argparse
 import os
-import time
 from collections.abc import Callable, Iterator, Sequence
 from typing import TYPE_CHECKING, NoReturn, TypeVar
 
 from . import bounds
 from .bounds import Limits
-from .errors import Undone, Usage, system_reason
+from .errors import Failure, Usage, about
 from .names import absolute
 from .outputs import Output
 from .reading import Access
@@ -33,6 +32,8 @@ class Parser(argparse.ArgumentParser):
             prog=f"zonectl {name}", usage=f"zonectl {name} {usage}", description=about, allow_abbrev=False, add_help=False,
             formatter_class=argparse.RawDescriptionHelpFormatter)
         self.name = name
+        self.alone: dict[str, str] = {}  # what options that may have no value mean without one
+        self.words: tuple[str, ...] = ()  # what the first operand is
         self.add_argument("operands", nargs="*", help=argparse.SUPPRESS)
         self.add_argument("-h", "--help", action="store_true", help="print this help")
         self.add_argument("-V", "--version", action="store_true", help="print the versions of zonectl, zonenorm and the text")
@@ -45,7 +46,7 @@ class Parser(argparse.ArgumentParser):
     def parsed(self, arguments: list[str]) -> argparse.Namespace:
         """Returns what a command line says. Raises Usage."""
         end = arguments.index("--") if "--" in arguments else len(arguments)
-        given = self.parse_intermixed_args(arguments[:end])
+        given = self.parse_intermixed_args([f"{it}={self.alone[it]}" if it in self.alone else it for it in arguments[:end]])
         given.operands += arguments[end + 1 :]
         return given
 
@@ -78,6 +79,13 @@ def add_output(parser: Parser, has_json: bool = True) -> None:
                   help="colours: auto (on a terminal), always or never")
 
 
+def form_of(given: argparse.Namespace) -> str:
+    """Returns the format that a command line asks for. Raises Usage."""
+    if given.json and given.format not in (None, "json"):
+        raise Usage(f"--json and --format={given.format} don't go together")
+    return given.format or ("json" if given.json else "text")
+
+
 def add_sources(parser: Parser, has_origin: bool = True) -> None:
     """Adds how sources are read."""
     if has_origin:
@@ -97,36 +105,36 @@ def add_sources(parser: Parser, has_origin: bool = True) -> None:
                   help="bound of one source after decompression (128M; at most 1G)")
 
 
-def jobs(text: str) -> int:
-    """Returns how many inputs are read at once. Raises ValueError."""
-    if not text.isascii() or not text.isdigit() or not 1 <= int(text[:5]) <= 1000:
-        raise ValueError(f"not a number from 1 to 1000: {text}")
-    return int(text)
-
-
 def add_jobs(parser: Parser) -> None:
     """Adds how many inputs are read at once."""
-    parser.option("-j", "--jobs", type=jobs, default=min(os.cpu_count() or 1, 8), metavar="N",
+    parser.option("-j", "--jobs", type=bounds.whole(1000), default=min(os.cpu_count() or 1, 8), metavar="N",
                   help="so many inputs at once (the number of CPUs, at most 8)")
 
 
-def at_once(items: Sequence[T], number: int, work: Callable[[T], R]) -> Iterator[R]:
-    """Yields what each item comes to, in their order, several at once. The engine's calls run beside each other."""
+def at_once(items: Sequence[T], number: int, work: Callable[[T], R]) -> Iterator[R | Failure]:
+    """Yields what each item comes to, or why to nothing, in their order, several at once. The engine's calls run beside each other."""
+
+    def tried(item: T) -> R | Failure:
+        try:
+            return work(item)
+        except Failure as failure:
+            return failure
+
     if number == 1 or len(items) < 2:
-        yield from map(work, items)
+        yield from map(tried, items)
         return
     from concurrent.futures import ThreadPoolExecutor
 
     pool = ThreadPoolExecutor(number)
     try:
-        yield from pool.map(work, items)
+        yield from pool.map(tried, items)
     finally:
         pool.shutdown(wait=False, cancel_futures=True)
 
 
 def access_of(given: argparse.Namespace, output: Output) -> Access:
     """Returns how sources are reached. Raises Failure."""
-    limits = Limits(given.max_size, given.timeout, given.deadline, given.run_deadline, time.monotonic())
+    limits = Limits(given.max_size, given.timeout, given.deadline, given.run_deadline)
     keys: dict[bytes, Key] = {}
     for path in given.key:
         for key in keys_of_file(path, output):
@@ -149,15 +157,13 @@ def keys_of_file(path: str, output: Output) -> list[Key]:
     from .tsig import keys_of
 
     try:
-        with open(path, encoding="ascii") as file:
+        with about(path), open(path, encoding="ascii") as file:
             if os.fstat(file.fileno()).st_mode & 0o004:
                 output.note("everyone may read this key file", path)
             text = file.read(MOST_OF_KEYS + 1)
         if len(text) > MOST_OF_KEYS:
             raise ValueError(f"it has more than {counted(MOST_OF_KEYS, 'octet')}")
         return keys_of(text)
-    except OSError as error:
-        raise Undone(f"it can't be read: {system_reason(error)}", path) from None
     except UnicodeDecodeError:
         raise Usage("it holds no key: it isn't ASCII", path) from None
     except ValueError as error:

@@ -6,11 +6,10 @@ import json
 import os
 import stat
 import sys
-from collections.abc import Iterator
-from typing import IO, Any
+from typing import Any
 
-from .errors import Undone, system_reason
-from .texts import are_colours_wanted, safe
+from .errors import Failure, Undone, system_reason
+from .texts import safe
 
 
 class Output:
@@ -23,15 +22,22 @@ class Output:
     @property
     def has_colours(self) -> bool:
         """Whether standard output gets colours."""
-        return are_colours_wanted(self.colour, sys.stdout)
+        if self.colour != "auto":
+            return self.colour == "always"
+        return bool(sys.stdout and sys.stdout.isatty() and not os.environ.get("NO_COLOR") and os.environ.get("TERM") != "dumb")
 
-    def note(self, text: str, source: str | None = None) -> None:
+    def note(self, text: str, source: str | None = None, by: str = "zonectl: ") -> None:
         """Writes a line to standard error."""
-        line = f"zonectl: {source}: {text}" if source else f"zonectl: {text}"
+        line = f"{by}{source}: {text}" if source else by + text
         if self.is_quiet:
             self.held.append(line)
         else:
             say(line)
+
+    def failed(self, failure: Failure) -> int:
+        """Writes why a source has no result, and returns the status."""
+        self.note(failure.sentence())
+        return failure.status
 
     def end(self, status: int) -> None:
         """Writes the notes that were held back, if the status isn't 0."""
@@ -45,13 +51,15 @@ class Output:
         octets = text if isinstance(text, bytes) else text.encode(encoding, "zonectl")
         if path is None:
             to_standard_output(octets)
-            return
-        with whole_file(path) as file:
-            file.write(octets)
+        else:
+            to_file(path, octets)
 
-    def json(self, found: dict[str, Any], path: str | None = None) -> None:
-        """Writes an object as a line."""
-        self.result(json.dumps(found) + "\n", path)
+    def answer(self, found: str | bytes | dict[str, Any], status: int, path: str | None = None) -> int:
+        """Writes a result, or an object as a line, and returns the status. Nothing is written to standard output where `is_quiet`
+        and the status is 0."""
+        if path or status or not self.is_quiet:
+            self.result(json.dumps(found) + "\n" if isinstance(found, dict) else found, path)
+        return status
 
 
 def say(line: str) -> None:
@@ -75,35 +83,28 @@ def to_standard_output(octets: bytes) -> None:
         raise Undone(f"standard output can't be written: {system_reason(error)}") from None
 
 
-@contextlib.contextmanager
-def whole_file(path: str) -> Iterator[IO[bytes]]:
-    """Opens a file that appears under its name when all is written, synced; a device or a pipe is written at once.
+def to_file(path: str, octets: bytes) -> None:
+    """Writes a file that appears under its name when all is written, synced; a device or a pipe is written at once.
 
     Its temporary file is beside it, and is removed where anything fails. Raises Undone.
     """
     try:
-        found = os.stat(path)
-    except OSError:
-        found = None
-    try:
+        found = os.stat(path) if os.path.exists(path) else None
         if found and not stat.S_ISREG(found.st_mode):
             with open(path, "wb") as file:
-                yield file
-            return
-        with _replaced(path, stat.S_IMODE(found.st_mode) if found else 0o666 & ~_umask()) as file:
-            yield file
+                file.write(octets)
+        else:
+            _replace(os.path.realpath(path), octets, stat.S_IMODE(found.st_mode) if found else 0o666 & ~_umask())
     except OSError as error:
         raise Undone(f"it can't be written: {system_reason(error)}", path) from None
 
 
-@contextlib.contextmanager
-def _replaced(path: str, mode: int) -> Iterator[IO[bytes]]:
-    path = os.path.realpath(path)
+def _replace(path: str, octets: bytes, mode: int) -> None:
     beside = f"{path}.{os.urandom(4).hex()}"
     descriptor = os.open(beside, os.O_WRONLY | os.O_CREAT | os.O_EXCL | os.O_CLOEXEC, 0o600)
     try:
         with open(descriptor, "wb") as file:
-            yield file
+            file.write(octets)
             file.flush()
             os.fsync(descriptor)
             os.fchmod(descriptor, mode)

@@ -2,6 +2,7 @@
 from __future__ import annotations
 
 from collections.abc import Iterator
+from itertools import groupby
 
 from . import engine
 from .texts import safe
@@ -30,16 +31,9 @@ def _merged(a: list[bytes], b: list[bytes]) -> Iterator[Line]:
 def _hunks(lines: list[Line]) -> Iterator[list[Line]]:
     """Yields the lines that differ, with their context."""
     changed = [at for at, line in enumerate(lines) if line[0] != " "]
-    begin = end = -1
-    for at in changed:
-        if begin >= 0 and at - CONTEXT > end:
-            yield lines[begin:end]
-            begin = -1
-        if begin < 0:
-            begin = max(0, at - CONTEXT)
-        end = min(len(lines), at + CONTEXT + 1)
-    if begin >= 0:
-        yield lines[begin:end]
+    shown = sorted({near for at in changed for near in range(max(0, at - CONTEXT), min(len(lines), at + CONTEXT + 1))})
+    for _, run in groupby(enumerate(shown), lambda it: it[1] - it[0]):  # which is one number for neighbours
+        yield [lines[at] for _, at in run]
 
 
 def _range(first: int, count: int) -> str:

@@ -1,6 +1,7 @@
 """Reads the octets of a source, within its limits of size and time, and says what they are: a master file or a transfer."""
 from __future__ import annotations
 
+import io
 import os
 import re
 import select
@@ -18,12 +19,9 @@ from .sources import File, Git, Server, Source, Standard, Web
 from .trust import Trust
 
 if TYPE_CHECKING:
-    import subprocess
-
-    from .transfer import Taken
     from .tsig import Key
 
-PIECE, BLOCK = 1 << 20, 1 << 14
+PIECE = 1 << 20
 GZIP = b"\x1f\x8b\x08"
 BYTE_ORDER_MARK = b"\xef\xbb\xbf"
 # First octets of what is no master file, what it is and what to do.
@@ -47,7 +45,6 @@ class Access:
     limits: Limits = field(default_factory=Limits)
     keys: dict[bytes, Key] = field(default_factory=dict)
     trust: Trust = field(default_factory=Trust)
-    warn: Callable[[str], object] = lambda text: None
 
     def key_of(self, server: Server) -> Key | None:
         """Returns the key that signs the query to a server: that of `KEY@`, or the only one. Raises Usage."""
@@ -66,7 +63,8 @@ class Read:
     """What was read: a master file, or the messages of a transfer, each after its length."""
 
     octets: bytes
-    is_transfer: bool
+    is_transfer: bool = False
+    has_mark: bool = False  # whether a byte order mark came before the octets
 
 
 def read(source: Source, access: Access) -> Read:
@@ -79,21 +77,19 @@ def read(source: Source, access: Access) -> Read:
     if octets.startswith(GZIP):
         octets = unpacked(octets, access.limits)
     form = source.form if isinstance(source, File) else ""
-    return _recognised(octets, form, access)
+    return _recognised(octets, form)
 
 
-def _recognised(octets: bytes, form: str, access: Access) -> Read:
+def _recognised(octets: bytes, form: str) -> Read:
     if form == "capture":
         return Read(octets, True)
-    for first, text in OTHER_FORMATS:
+    for first, what in OTHER_FORMATS:
         if re.match(first, octets):
-            raise Refusal(text)
+            raise Refusal(what)
     if form != "file" and form != "dig" and is_capture(octets):
         return Read(octets, True)
-    if octets.startswith(BYTE_ORDER_MARK):
-        access.warn("a byte order mark is skipped, for which servers refuse the file")
-        octets = octets[len(BYTE_ORDER_MARK) :]
-    return Read(dig.master_file(octets) if form == "dig" else octets, False)
+    text = octets.removeprefix(BYTE_ORDER_MARK)
+    return Read(dig.master_file(text) if form == "dig" else text, has_mark=text != octets)
 
 
 def is_capture(octets: bytes) -> bool:
@@ -103,25 +99,20 @@ def is_capture(octets: bytes) -> bool:
 
 def unpacked(octets: bytes, limits: Limits) -> bytes:
     """Returns what is in a gzip file, of all its members. Raises Refusal or Undone."""
-    found, clock, member = bytearray(), limits.clock("unpacking"), zlib.decompressobj(wbits=31)
-    is_begun = True  # whether a member has begun and hasn't ended
-    for at in range(0, len(octets), BLOCK):
-        block = octets[at : at + BLOCK]
-        while block:
-            if not is_begun:
-                block = block.lstrip(b"\0")  # which may fill a block of a tape
-                member, is_begun = zlib.decompressobj(wbits=31), bool(block)
-            try:
-                found += member.decompress(block, PIECE)
-            except zlib.error:
-                raise Refusal("the gzip file is broken") from None
-            clock.check()
-            if len(found) > limits.max_size:
-                raise limits.too_large()
-            is_begun = is_begun and not member.eof
-            block = member.unconsumed_tail if is_begun else member.unused_data
-    if is_begun:
-        raise Refusal("the gzip file is cut off")
+    import gzip
+
+    found, clock = bytearray(), limits.clock("unpacking")
+    try:
+        with gzip.GzipFile(fileobj=io.BytesIO(octets)) as file:
+            while piece := file.read(PIECE):
+                found += piece
+                clock.check()
+                if len(found) > limits.max_size:
+                    raise limits.too_large()
+    except EOFError:
+        raise Refusal("the gzip file is cut off") from None
+    except (gzip.BadGzipFile, zlib.error):
+        raise Refusal("the gzip file is broken") from None
     if found.startswith(GZIP):
         raise Refusal("it is gzip inside gzip; one level is read")
     return bytes(found)
@@ -181,62 +172,40 @@ def _until_ready(poll: select.poll, clock: Clock) -> None:
 
 def from_git(source: Git, limits: Limits) -> bytes:
     """Returns a blob of git. Raises Undone."""
-    return git_output(["cat-file", "blob", f"{source.revision}:{source.path}"], limits)
+    blob = f"{source.revision}:{source.path}"
+    if int(git_output(["cat-file", "-s", blob], limits)) > limits.max_size:
+        raise limits.too_large()
+    return git_output(["cat-file", "blob", blob], limits)
 
 
 def git_output(arguments: list[str], limits: Limits) -> bytes:
     """Returns what git writes. No shell runs, and git asks nothing. Raises Undone."""
     import subprocess
 
-    environment = {**os.environ, "GIT_TERMINAL_PROMPT": "0", "LC_ALL": "C"}
+    environment, clock = {**os.environ, "GIT_TERMINAL_PROMPT": "0", "LC_ALL": "C"}, limits.clock("git")
     try:
-        git = subprocess.Popen(
-            ["git", *arguments], stdin=subprocess.DEVNULL, stdout=subprocess.PIPE, stderr=subprocess.PIPE, env=environment)
+        git = subprocess.run(
+            ["git", *arguments], stdin=subprocess.DEVNULL, capture_output=True, env=environment, timeout=clock.left())
+    except subprocess.TimeoutExpired:
+        clock.check(early=1)
+        raise
     except OSError:
         raise Undone("git can't be run: is it installed?") from None
-    with git:
-        try:
-            found, said = _both_of(git, limits)
-        except BaseException:
-            git.kill()
-            raise
-        if git.wait():
-            lines = said.decode("utf-8", "surrogateescape").splitlines()
-            raise Undone(lines[0].removeprefix("fatal: ").removeprefix("error: ") if lines else "git failed")
-    return found
+    if git.returncode:
+        lines = git.stderr.decode("utf-8", "surrogateescape").splitlines()
+        raise Undone(lines[0].removeprefix("fatal: ").removeprefix("error: ") if lines else "git failed")
+    return git.stdout
 
 
-def _both_of(git: subprocess.Popen[bytes], limits: Limits) -> tuple[bytes, bytes]:
-    """Returns what git writes on both outputs, until it closes them."""
-    assert git.stdout and git.stderr
-    clock, poll = limits.clock("git"), select.poll()
-    found = {git.stdout.fileno(): bytearray(), git.stderr.fileno(): bytearray()}
-    for descriptor in found:
-        poll.register(descriptor, select.POLLIN)
-    still = len(found)
-    while still:
-        left = clock.left()
-        for descriptor, _ in poll.poll(None if left is None else left * 1000 + 1):
-            piece = os.read(descriptor, PIECE)
-            found[descriptor] += piece
-            if not piece:
-                poll.unregister(descriptor)
-                still -= 1
-            if len(found[descriptor]) > limits.max_size:
-                raise limits.too_large()
-    out, said = found.values()
-    return bytes(out), bytes(said)
-
-
-def transferred(source: Server, access: Access, sink: Callable[[bytes], object]) -> Taken:
-    """Asks a server for a zone and hands the messages to `sink`. Raises Failure."""
+def transferred(source: Server, access: Access, sink: Callable[[bytes], object]) -> int:
+    """Asks a server for a zone and hands the messages to `sink`. Returns how many came. Raises Failure."""
     from .connections import connected
     from .transfer import Query, ask
 
     key = access.key_of(source)
     context = access.trust.context("dot") if source.is_tls else None
     clock = access.limits.clock("the transfer")
-    query = Query(wire_name(source.zone).lower(), source.class_number)
+    query = Query(wire_name(source.zone), source.class_number)
     with connected(source.host, source.port, access.trust.name or source.host, context, clock) as connection:
         return ask(connection, query, key, access.limits, sink)
 

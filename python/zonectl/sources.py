@@ -5,11 +5,12 @@ import re
 from dataclasses import dataclass
 
 from .errors import Usage
-from .names import absolute, class_number, wire_name
+from .names import absolute, class_number
 
 SCHEME = re.compile(r"([A-Za-z][A-Za-z0-9+.-]*)://")
 PREFIX = re.compile(r"(git|file|capture|dig):", re.I)
-SECRET = "KEY is the name of a key; its secret belongs into a file (--key FILE)"
+# KEY, an IPv6 address, HOST, PORT, ZONE and CLASS
+SERVER = re.compile(r"(?:([^@/]+)@)?(?:\[([^\[\]/@]+)\]|([^\[\]:/@]+))(?::([0-9]{1,5}))?/([^?]+)(?:\?class=(.+))?", re.S)
 
 
 @dataclass(frozen=True)
@@ -120,60 +121,29 @@ def _without_user(text: str) -> str:
     return re.sub(r"//[^/]*@", "//", text)
 
 
-def _octets(text: str, escaped: str) -> str:
-    """Returns a part of a URL with each `%XX` as its octet."""
-    if re.search(r"%(?![0-9A-Fa-f]{2})", escaped):
-        raise Usage("a % isn't followed by two hexadecimal digits", text)
-    return re.sub("%(..)", lambda it: chr(int(it[1], 16)), escaped)
-
-
 def _of_server(text: str, rest: str, is_tls: bool) -> Server:
     """Reads `[KEY@]HOST[:PORT]/ZONE[?class=CLASS]`. A secret in it is never repeated."""
     user, at, _ = rest.rpartition("@")
     if at and ":" in user.partition("/")[0]:
-        raise Usage(SECRET)
-    authority, slash, path = rest.partition("/")
-    key, at, host = authority.rpartition("@")
-    if at and not key:
-        raise Usage("the name of the key is empty", text)
-    host, port = _host_and_port(text, host, 853 if is_tls else 53)
-    zone, mark, query = path.partition("?")
-    if not slash or not zone:
-        raise Usage("the URL names no zone: axfr://HOST/ZONE (the root is .)", text)
-    return Server(
-        text, host, port, _name(text, _octets(text, zone)), _class(text, query) if mark else 1,
-        _name(text, _octets(text, key)) if at else None, is_tls)
-
-
-def _host_and_port(text: str, authority: str, default: int) -> tuple[str, int]:
-    found = re.fullmatch(r"(?:\[([^\[\]]+)\]|([^\[\]:]+))(?::([0-9]*))?", authority)
-    if not found:
-        raise Usage("the URL names no HOST or HOST:PORT (an IPv6 address is in brackets)", text)
-    host = found[1] or found[2]
-    if not host.isascii():
-        raise Usage("a host is a name in ASCII (its xn-- form) or an address", text)
-    if found[3] is None:
-        return host, default
-    if not found[3] or not 1 <= int(found[3][:6]) <= 65535:
+        raise Usage("KEY is the name of a key; its secret belongs into a file (--key FILE)")
+    found = SERVER.fullmatch(rest)
+    if not found or not (found[2] or found[3]).isascii():
+        raise Usage("it isn't axfr://[KEY@]HOST[:PORT]/ZONE[?class=CLASS] (an IPv6 address is in brackets, the root is .)", text)
+    key, six, host, port, zone, rdclass = found.groups()
+    number = int(port or (853 if is_tls else 53))
+    if not 1 <= number <= 65535:
         raise Usage("a port is 1 to 65535", text)
-    return host, int(found[3])
-
-
-def _class(text: str, query: str) -> int:
-    word, equals, value = query.partition("=")
-    if word != "class" or not equals:
-        raise Usage("after ? comes class=CLASS and nothing else", text)
     try:
-        return class_number(value)
+        return Server(text, six or host, number, _name(zone), class_number(rdclass or "IN"), _name(key) if key else None, is_tls)
     except ValueError as error:
         raise Usage(str(error), text) from None
 
 
-def _name(text: str, name: str) -> str:
-    try:
-        return absolute(name)
-    except ValueError as error:
-        raise Usage(str(error), text) from None
+def _name(escaped: str) -> str:
+    """Returns the name that a part of a URL has, each `%XX` as its octet. Raises ValueError."""
+    if re.search(r"%(?![0-9A-Fa-f]{2})", escaped):
+        raise ValueError("a % isn't followed by two hexadecimal digits")
+    return absolute(re.sub("%(..)", lambda it: chr(int(it[1], 16)), escaped))
 
 
 def sources_of(texts: list[str]) -> list[Source]:
@@ -182,8 +152,3 @@ def sources_of(texts: list[str]) -> list[Source]:
     if sum(isinstance(it, Standard) for it in sources) > 1:
         raise Usage("standard input (-) can be read once")
     return sources
-
-
-def zone_of_url(source: Source) -> bytes | None:
-    """Returns the zone that a source's URL names, in wire format and lower case."""
-    return wire_name(source.zone).lower() if isinstance(source, Server) else None

@@ -5,9 +5,6 @@ Names, paths, URLs and messages come from outside. They pass `safe` on their way
 from __future__ import annotations
 
 import codecs
-import os
-from collections.abc import Mapping
-from typing import IO
 
 RED, GREEN, YELLOW, ALARM = "31", "32", "33", "1;31"
 
@@ -78,13 +75,6 @@ def duration(seconds: float) -> str:
     minutes, rest = divmod(round(seconds), 60)
     hours, minutes = divmod(minutes, 60)
     return f"{hours}h{minutes:02d}m{rest:02d}s" if hours else f"{minutes}m{rest:02d}s"
-
-
-def are_colours_wanted(choice: str, stream: IO[str] | None, environment: Mapping[str, str] = os.environ) -> bool:
-    """Returns whether a stream gets colours. `choice` is `auto`, `always` or `never`."""
-    if choice != "auto":
-        return choice == "always"
-    return stream is not None and stream.isatty() and not environment.get("NO_COLOR") and environment.get("TERM") != "dumb"
 
 
 def coloured(text: str, colour: str, is_on: bool) -> str:

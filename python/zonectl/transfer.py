@@ -8,7 +8,7 @@ import secrets
 import struct
 from collections.abc import Callable
 from dataclasses import dataclass, field
-from typing import NamedTuple, Protocol
+from typing import Protocol
 
 from .bounds import Limits
 from .errors import Failure, Refusal, Undone
@@ -34,11 +34,14 @@ class WrongSignature(Refusal):
     """What is wrong with the signatures of a transfer."""
 
 
-class Receives(Protocol):
-    """What a transfer is read from."""
+class Stream(Protocol):
+    """What a server is asked over."""
 
     def recv(self, count: int, /) -> bytes:
         """Returns the next octets, at most `count`; none at the end."""
+
+    def sendall(self, octets: bytes, /) -> None:
+        """Sends octets."""
 
 
 @dataclass(frozen=True)
@@ -54,17 +57,10 @@ class Query:
         return self.ident + struct.pack("!HHHHH", 0, 1, 0, 0, 0) + self.zone + struct.pack("!HH", AXFR, self.class_number)
 
 
-class Taken(NamedTuple):
-    """What came of a transfer."""
-
-    octets: int
-    messages: int
-
-
 class Frames:
     """The messages of a stream, each after its length of two octets."""
 
-    def __init__(self, connection: Receives) -> None:
+    def __init__(self, connection: Stream) -> None:
         self.connection, self.rest = connection, bytearray()
 
     def _fill(self, count: int) -> None:
@@ -99,9 +95,9 @@ def must_answer(message: bytes, query: Query) -> None:
 
 
 def capture(
-    connection: Receives, query: Query, signatures: Signatures | None, limits: Limits, sink: Callable[[bytes], object],
-) -> Taken:
-    """Hands messages to `sink`, each after its length, up to the one in which an SOA comes the second time.
+    connection: Stream, query: Query, signatures: Signatures | None, limits: Limits, sink: Callable[[bytes], object],
+) -> int:
+    """Hands messages to `sink`, each after its length, up to the one in which an SOA comes the second time. Returns how many came.
 
     With signatures they are held back until one covers them. Raises Stopped, WrongSignature, or what the connection raises.
     """
@@ -133,21 +129,14 @@ def capture(
         if not signatures:
             sink(bytes(frames.rest))
         raise
-    return Taken(octets, count)
+    return count
 
 
 def ask(
-    connection: SendsAndReceives, query: Query, key: Key | None, limits: Limits, sink: Callable[[bytes], object],
-) -> Taken:
-    """Sends a query and captures its answer."""
+    connection: Stream, query: Query, key: Key | None, limits: Limits, sink: Callable[[bytes], object],
+) -> int:
+    """Sends a query and captures its answer. Returns how many messages came."""
     signatures = Signatures(key) if key else None
     message = signatures.signed(query.message()) if signatures else query.message()
     connection.sendall(struct.pack("!H", len(message)) + message)
     return capture(connection, query, signatures, limits, sink)
-
-
-class SendsAndReceives(Receives, Protocol):
-    """What a server is asked over."""
-
-    def sendall(self, octets: bytes, /) -> None:
-        """Sends octets."""

@@ -4,12 +4,11 @@ TLS is 1.3 for transfers and verifies the server by default: the system's certif
 """
 from __future__ import annotations
 
-from collections.abc import Iterator
-from contextlib import contextmanager
+from collections.abc import Callable
 from dataclasses import dataclass
 from typing import TYPE_CHECKING
 
-from .errors import Undone, Usage, system_reason
+from .errors import Usage, about
 
 if TYPE_CHECKING:
     import ssl
@@ -37,21 +36,19 @@ class Trust:
         if not self.verifies:
             context.check_hostname, context.verify_mode = False, ssl.CERT_NONE
         elif self.ca:
-            with _using(self.ca, "certificates"):
-                context.load_verify_locations(self.ca)
+            _load(context.load_verify_locations, self.ca, "certificates")
         else:
             context.load_default_certs()
         if self.client:
-            with _using(self.client, "a client certificate and its key"):
-                context.load_cert_chain(self.client, password=lambda: "")
+            _load(lambda path: context.load_cert_chain(path, password=lambda: ""), self.client, "a client certificate and its key")
         return context
 
 
-@contextmanager
-def _using(path: str, what: str) -> Iterator[None]:
-    try:
-        yield
-    except OSError as error:
-        if type(error).__name__ == "SSLError":
-            raise Usage(f"{path} doesn't hold {what} in PEM") from None
-        raise Undone(f"it can't be read: {system_reason(error)}", path) from None
+def _load(load: Callable[[str], object], path: str, what: str) -> None:
+    import ssl
+
+    with about(path):
+        try:
+            load(path)
+        except ssl.SSLError:
+            raise Usage(f"it doesn't hold {what} in PEM") from None

@@ -14,13 +14,6 @@ MOVED = frozenset((301, 302, 303, 307, 308))
 PIECE = 1 << 20
 
 
-class _Shared(Connection):
-    """A connection that http.client doesn't close: the body is read after it would have."""
-
-    def close(self) -> None:
-        """Closes nothing."""
-
-
 def download(url: str, limits: Limits, trust: Trust) -> bytes:
     """Returns the body of a URL. Redirects lead to https alone, 5 at most. Raises Undone."""
     clock, context = limits.clock("the download"), trust.context("http/1.1")
@@ -50,7 +43,7 @@ def _led_to(url: str, location: str) -> str:
 def _answer(connection: Connection, parts: urllib.parse.SplitResult, limits: Limits) -> tuple[str | None, bytes]:
     """Returns where a redirect leads, or None and the body."""
     request = http.client.HTTPConnection(parts.netloc)
-    request.sock = _Shared(connection.socket, connection.clock)  # it has what is called
+    request.sock = connection  # it has what is called
     target = urllib.parse.urlunsplit(("", "", parts.path or "/", parts.query, ""))
     try:
         request.request("GET", target, headers={"User-Agent": "zonectl", "Accept-Encoding": "identity", "Connection": "close"})

@@ -1,49 +1,23 @@
 """Copies of zones: a source is read, its origin found, and the engine asked for its canonical text."""
 from __future__ import annotations
 
-from collections.abc import Callable
-from dataclasses import dataclass, field
-from typing import cast
+from collections.abc import Callable, Iterator
+from dataclasses import dataclass
 
 from . import engine, origin
 from .errors import Refusal, Undone, about
-from .names import class_name, shown_name
-from .reading import Access, Read, read
-from .sources import File, Git, Server, Source, Web, zone_of_url
+from .names import class_name
+from .reading import Access, Read, from_descriptor, from_path, read
+from .sources import File, Git, Server, Source, Web
 
 
-@dataclass(frozen=True)
 class Copy:
     """A copy of a zone. `source` is the argument that names it."""
 
-    source: str
-    text: bytes  # the canonical text
-    is_transfer: bool = False
-    decoder: str = "engine"
-    soa: list[str] = field(init=False, repr=False, compare=False)
-
-    def __post_init__(self) -> None:
-        object.__setattr__(self, "soa", self.text[: self.text.index(b"\n")].decode("ascii").split(" "))
-
-    @property
-    def apex(self) -> str:
-        """The owner of the SOA record."""
-        return self.soa[0]
-
-    @property
-    def rdclass(self) -> str:
-        """The class of all records."""
-        return self.soa[2]
-
-    @property
-    def serial(self) -> int:
-        """The serial of the SOA record."""
-        return int(self.soa[6])
-
-    @property
-    def records(self) -> int:
-        """How many records it has."""
-        return self.text.count(b"\n")
+    def __init__(self, source: str, text: bytes, is_transfer: bool = False, decoder: str = "engine") -> None:
+        self.source, self.text, self.is_transfer, self.decoder = source, text, is_transfer, decoder
+        self.soa = text[: text.index(b"\n")].decode("ascii").split(" ")
+        self.apex, self.rdclass, self.serial, self.records = self.soa[0], self.soa[2], int(self.soa[6]), text.count(b"\n")
 
 
 @dataclass(frozen=True)
@@ -59,31 +33,52 @@ class Reader:
     def copy(self, source: Source, fallback: str | None = None) -> Copy:
         """Reads a source. `fallback` is the origin of a file without evidence. Raises Failure."""
         with about(source.text):
-            it = read(source, self._access(source))
-            copy = self._of_transfer(source, it) if it.is_transfer else self._of_file(source, it, fallback)
-            if self.require_zonemd and copy.is_transfer and (why := engine.verify(copy.text)):
-                raise Refusal(why)
+            copy = self.judged(source, read(source, self.access), fallback)
+            if self.require_zonemd and copy.is_transfer and not (found := engine.verify(copy.text)).is_verified:
+                raise Refusal("; ".join(found.lines()).replace("; not verified:", ";"))
             return copy
 
     def pair(self, first: Source, second: Source) -> tuple[Copy, Copy]:
         """Reads two sources of one zone. Files come before servers, which aren't asked for another zone. Raises Failure."""
-        urls = [shown_name(it) if it else None for it in map(zone_of_url, (first, second))]
-        known, copies = [*urls], cast("list[Copy | None]", [None, None])
+        sides = first, second
+        urls = [it.zone if isinstance(it, Server) else None for it in sides]
+        zones, copies = [*urls], {}
         for at in sorted((0, 1), key=lambda at: urls[at] is not None):
-            if all(known):
-                _must_be_one((first.text, known[0]), (second.text, known[1]))
-            copy = copies[at] = self.copy((first, second)[at], urls[1 - at])
-            known[at] = copy.apex
-        one, other = copies
-        assert one and other
-        _must_be_one((first.text, one.apex), (second.text, other.apex))
+            _must_be_one(sides, zones)
+            copies[at] = self.copy(sides[at], urls[1 - at])
+            zones[at] = copies[at].apex
+        _must_be_one(sides, zones)
+        one, other = copies[0], copies[1]
         if one.rdclass != other.rdclass:
             raise Undone(f"{first.text} is of class {one.rdclass}, {second.text} of class {other.rdclass}: nothing to compare")
         return one, other
 
-    def _access(self, source: Source) -> Access:
-        access = self.access
-        return Access(access.limits, access.keys, access.trust, lambda text: self.warn(source.text, text))
+    def judged(self, source: Source, it: Read, fallback: str | None = None) -> Copy:
+        """Returns what was read as a copy. Raises Failure."""
+        if it.is_transfer:
+            return self._of_transfer(source, it)
+        if it.has_mark:
+            self.warn(source.text, "a byte order mark is skipped, for which servers refuse the file")
+        name = self.origin_of(source, it.octets, fallback)
+        return self.under(source, engine.of_file(it.octets, name), name)
+
+    def under(self, source: Source, text: bytes, name: str) -> Copy:
+        """Returns the canonical text of a file as a copy. Its apex has to be the origin, if that wasn't given. Raises Undone."""
+        copy = Copy(source.text, text)
+        if copy.apex != name:
+            wrong = f"its SOA record is that of {copy.apex}, not of {name}"
+            if not self.origin:
+                raise Undone(f"{wrong}; give --origin NAME")
+            self.warn(source.text, wrong)
+        return copy
+
+    def lines(self, path: str) -> Iterator[tuple[int, str]]:
+        """Yields the lines of a list with their numbers, without empty ones and comments (`#`). `-` is standard input. Raises Failure."""
+        with about(path):
+            octets = from_descriptor(0, self.access.limits) if path == "-" else from_path(path, self.access.limits)
+        for number, line in enumerate(octets.decode("utf-8", "surrogateescape").split("\n"), 1):
+            if line.strip() and not line.startswith("#"):
+                yield number, line
 
     def _of_transfer(self, source: Source, it: Read) -> Copy:
         copy = self._transferred(source, it.octets)
@@ -116,21 +111,12 @@ class Reader:
         self.warn(source.text, f"decoded by zonectl: {', '.join(found.types)}")
         return Copy(source.text, text, is_transfer=True, decoder="zonectl")
 
-    def _of_file(self, source: Source, it: Read, fallback: str | None) -> Copy:
-        name = self.origin or self._evident(source, it.octets, fallback)
-        copy = Copy(source.text, engine.of_file(it.octets, name))
-        if copy.apex != name:
-            text = f"its SOA record is that of {copy.apex}, not of {name}"
-            if not self.origin:
-                raise Undone(f"{text}; give --origin NAME")
-            self.warn(source.text, text)
-        return copy
-
-    def _evident(self, source: Source, octets: bytes, fallback: str | None) -> str:
-        found = origin.Evidence(origin.by_name(path_of(source)), origin.by_text(octets))
-        if fallback and not found.by_name and not found.by_text:
-            return fallback
-        return found.origin(self.origin_from)
+    def origin_of(self, source: Source, octets: bytes, fallback: str | None = None) -> str:
+        """Returns the origin of a file. Raises Undone."""
+        if self.origin:
+            return self.origin
+        name, text = origin.by_name(path_of(source)), origin.by_text(octets)
+        return fallback if fallback and not name and not text else origin.decided(name, text, self.origin_from)
 
 
 def path_of(source: Source) -> str:
@@ -145,7 +131,7 @@ def path_of(source: Source) -> str:
     return ""
 
 
-def _must_be_one(first: tuple[str, str | None], second: tuple[str, str | None]) -> None:
-    """Raises Undone if two sources are of two zones. Each is its argument and its zone."""
-    if first[1] != second[1]:
-        raise Undone(f"{first[0]} is the zone {first[1]}, {second[0]} the zone {second[1]}: nothing to compare")
+def _must_be_one(sides: tuple[Source, Source], zones: list[str | None]) -> None:
+    """Raises Undone if two sources are of two zones, as far as these are known."""
+    if None not in zones and zones[0] != zones[1]:
+        raise Undone(f"{sides[0].text} is the zone {zones[0]}, {sides[1].text} the zone {zones[1]}: nothing to compare")

@@ -2,6 +2,7 @@
 from __future__ import annotations
 
 import argparse
+from collections.abc import Iterable
 
 from ..errors import Status, Usage
 from ..main import COMMANDS, module_of
@@ -9,8 +10,7 @@ from ..options import Parser, add_output
 from ..outputs import Output
 
 ABOUT = "Prints a completion for bash, made from the parsers."
-CHOICES = {"--color": "auto always never", "--origin-from": "name text", "--format": "text json patch nsupdate github",
-           "--ignore": "serial ttl dnssec", "-i": "serial ttl dnssec", "--lines": "all", "-n": "all"}
+MORE = {"--ignore": ("serial", "ttl", "dnssec"), "--lines": ("all",)}  # values beside others
 BASH = """\
 # Completion of zonectl for bash. `zonectl completion bash` makes it from the parsers.
 _zonectl() {{
@@ -20,8 +20,8 @@ _zonectl() {{
         mapfile -t COMPREPLY < <(compgen -W '{commands} --help --version -V -h' -- "$word")
         return
     fi
-    case $before in
-{choices}    esac
+    case ${{COMP_WORDS[1]}}:$before in
+{values}    esac
     case ${{COMP_WORDS[1]}} in
 {options}    esac
     case $word in
@@ -39,6 +39,7 @@ complete -F _zonectl zonectl
 def parser() -> Parser:
     """Returns the parser."""
     made = Parser("completion", "bash", ABOUT)
+    made.words = ("bash",)
     add_output(made, has_json=False)
     return made
 
@@ -53,11 +54,19 @@ def run(given: argparse.Namespace, output: Output) -> int:
 
 def bash() -> str:
     """Returns the completion for bash."""
-    options = ""
+    values = options = ""
     for name in sorted(COMMANDS):
-        known = sorted(it for action in module_of(name).parser().options() for it in action.option_strings)
-        options += f"        {name}) options='{' '.join(known)}' ;;\n"
-    choices = "".join(
-        f"        {name}) mapfile -t COMPREPLY < <(compgen -W '{known}' -- \"$word\") && return ;;\n"
-        for name, known in CHOICES.items())
-    return BASH.format(commands=" ".join(sorted(COMMANDS)), choices=choices, options=options)
+        known: list[str] = []
+        parser = module_of(name).parser()
+        for action in parser.options():
+            known += action.option_strings
+            if words := action.choices or MORE.get(action.option_strings[-1]):
+                values += _case("|".join(f"{name}:{it}" for it in action.option_strings), words)
+        if parser.words:
+            values += _case(f"{name}:{name}", parser.words)
+        options += f"        {name}) options='{' '.join(sorted(known))}' ;;\n"
+    return BASH.format(commands=" ".join(sorted(COMMANDS)), values=values, options=options)
+
+
+def _case(pattern: str, words: Iterable[str]) -> str:
+    return f"        {pattern}) mapfile -t COMPREPLY < <(compgen -W '{' '.join(words)}' -- \"$word\") && return ;;\n"

@@ -2,16 +2,16 @@
 from __future__ import annotations
 
 import argparse
-import json
 import os
 import re
+from typing import Any
 
 from ..diff_text import github_of, json_of, json_of_one, text_of
 from ..difference import Difference, Ignored, difference_of
 from ..errors import Failure, Status, Undone, Usage
 from ..files import Change, changed_since
 from ..nsupdate import parts_of
-from ..options import Parser, add_output, add_sources, reader_of
+from ..options import Parser, add_output, add_sources, form_of, reader_of
 from ..outputs import Output
 from ..patch import patch_of
 from ..sources import File, Git, sources_of
@@ -67,9 +67,7 @@ def parser() -> Parser:
 
 def run(given: argparse.Namespace, output: Output) -> int:
     """Compares two copies, or the working tree with a revision."""
-    form = given.format or ("json" if given.json else "text")
-    if given.json and form != "json":
-        raise Usage(f"--json and --format={form} don't go together")
+    form = form_of(given)
     if given.parts and form != "nsupdate":
         raise Usage("--parts goes with --format=nsupdate")
     if given.since is not None:
@@ -82,21 +80,22 @@ def run(given: argparse.Namespace, output: Output) -> int:
     return compared(*reader_of(given, output).pair(*sources), form, given, output)
 
 
-def compared(a: Copy, b: Copy, form: str, given: argparse.Namespace, output: Output, title: str = "") -> Status:
+def compared(a: Copy, b: Copy, form: str, given: argparse.Namespace, output: Output, title: str = "") -> int:
     """Prints how two copies differ, under a title, and returns the status."""
     if form == "patch":
         text = patch_of(a, b, given.presentation)
-        return written(text, Status.DIFFERENT if text else Status.SAME, given, output)
+        return output.answer(text, Status.DIFFERENT if text else Status.SAME, given.output)
     found = difference_of(a, b, given.exact, given.ignore)
     status = Status.DIFFERENT if found.rrsets else Status.SAME
     if form == "nsupdate":
         return updates(found, status, given, output)
     most = None if given.lines == -1 else given.lines
     if form == "json":
-        return written(json.dumps(json_of(found, most)) + "\n", status, given, output)
+        return output.answer(json_of(found, most), status, given.output)
     most = LINES if given.lines is None else most
     is_on = output.has_colours and form == "text" and not given.output
-    return written(github_of(found, most) if form == "github" else title + text_of(found, most, is_on), status, given, output)
+    text = github_of(found, most) if form == "github" else title + text_of(found, most, is_on)
+    return output.answer(text, status, given.output)
 
 
 def since(form: str, given: argparse.Namespace, output: Output) -> int:
@@ -112,33 +111,25 @@ def since(form: str, given: argparse.Namespace, output: Output) -> int:
                 status: int = compared(*reader.pair(old, new), form, given, output, f"== {safe(it.path)}\n")
             else:
                 copy = reader.copy(old if it.how == "removed" else new) if form == "json" else None
-                status = written(one_sided(it, form, copy), Status.DIFFERENT, given, output)
+                status = output.answer(one_sided(it, form, copy), Status.DIFFERENT)
         except Failure as failure:
-            output.note(failure.sentence())
-            status = failure.status
+            status = output.failed(failure)
         worst = max(worst, status)
     return worst
 
 
-def one_sided(it: Change, form: str, copy: Copy | None) -> str:
+def one_sided(it: Change, form: str, copy: Copy | None) -> str | dict[str, Any]:
     """Returns what is printed of a file that was added or removed."""
     if copy:
-        return json.dumps(json_of_one(copy, is_added=it.how == "added")) + "\n"
+        return json_of_one(copy, is_added=it.how == "added")
     return {"text": f"== {safe(it.path)}: {it.how}\n", "github": f"### {safe(it.path)}: {it.how}\n"}.get(form, "")
 
 
-def written(text: str, status: Status, given: argparse.Namespace, output: Output) -> Status:
-    """Writes a text, and returns the status."""
-    if given.output or status or not given.quiet:
-        output.result(text, given.output)
-    return status
-
-
-def updates(found: Difference, status: Status, given: argparse.Namespace, output: Output) -> Status:
+def updates(found: Difference, status: Status, given: argparse.Namespace, output: Output) -> int:
     """Writes the parts of an update."""
     parts = parts_of(found, output.note)
     if not given.parts:
-        return written("".join(parts), status, given, output)
+        return output.answer("".join(parts), status, given.output)
     if len(parts) > 9999:
         raise Undone("the update has more than 9999 parts")
     for number, part in enumerate(parts, 1):

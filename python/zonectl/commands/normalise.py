@@ -2,15 +2,13 @@
 from __future__ import annotations
 
 import argparse
-import json
 import os
-from collections.abc import Callable
 from typing import Any
 
 from .. import engine
 from ..errors import Failure, Refusal, Status, Undone, Usage, about
 from ..folding import folded_text
-from ..options import Parser, add_output, add_sources, reader_of
+from ..options import Parser, add_output, add_sources, at_once, reader_of
 from ..outputs import Output
 from ..reading import stored_octets
 from ..sources import File, Source, sources_of
@@ -50,12 +48,10 @@ def run(given: argparse.Namespace, output: Output) -> int:
         return textconv(sources[0], reader, output)
     if not is_many:
         copy = reader.copy(sources[0])
-        if given.output or not given.quiet:
-            shown = f"{json.dumps(object_of(copy, given.fold))}\n".encode() if given.json else text_of(copy, given)
-            output.result(shown, given.output)
-        return Status.SAME
+        return output.answer(object_of(copy, given.fold) if given.json else text_of(copy, given), Status.SAME, given.output)
     seen: set[str] = set()
-    return many(sources, reader, output, lambda copy: written(copy, given, output, seen))
+    return max(output.failed(it) if isinstance(it, Failure) else it for it in at_once(
+        sources, 1, lambda source: written(reader.copy(source), given, output, seen)))
 
 
 def text_of(copy: Copy, given: argparse.Namespace) -> bytes:
@@ -77,19 +73,6 @@ def object_of(copy: Copy, is_folded: bool) -> dict[str, Any]:
 def file_name(apex: str) -> str:
     """Returns the name of a zone as that of a file. It has no `/`, and isn't `..`, since no label is empty."""
     return apex.removesuffix(".").replace("/", "_") or "root"
-
-
-def many(sources: list[Source], reader: Reader, output: Output, work: Callable[[Copy], int]) -> int:
-    """Works on one source after another, and returns the greatest status."""
-    worst = 0
-    for source in sources:
-        try:
-            status = work(reader.copy(source))
-        except Failure as failure:
-            output.note(failure.sentence())
-            status = failure.status
-        worst = max(worst, status)
-    return worst
 
 
 def written(copy: Copy, given: argparse.Namespace, output: Output, seen: set[str]) -> int:

@@ -9,12 +9,11 @@ from dataclasses import dataclass, replace
 from typing import Any
 
 from .. import engine
-from ..errors import Failure, Status, Undone, Usage, about
+from ..errors import Failure, Status, Undone, Usage
 from ..folding import folded_text
 from ..names import absolute
 from ..options import Parser, add_jobs, add_output, add_sources, at_once, reader_of
 from ..outputs import Output
-from ..reading import from_descriptor, from_path
 from ..sources import Source, source_of, sources_of
 from ..texts import alarm, one_field
 from ..zones import Copy, Reader
@@ -51,68 +50,66 @@ def parser() -> Parser:
     return made
 
 
-def sum_of(copy: Copy, is_folded: bool) -> Sum:
-    """Returns the digest of a copy."""
-    text = folded_text(copy.text) if is_folded else copy.text
-    canonical = engine.CANONICAL + "-folded" * is_folded
-    return Sum(hashlib.sha256(text).hexdigest(), canonical, copy.serial, copy.apex, copy.source)
-
-
 def run(given: argparse.Namespace, output: Output) -> int:
     """Prints digests, or compares with those of a file."""
-    if given.check is not None:
-        if given.operands or given.origin or given.fold:
-            raise Usage("with --check the lines name sources, zones and the text")
-        return check(given, output)
-    sources = sources_of(given.operands)
-    if not sources:
+    if given.check is not None and (given.operands or given.origin or given.fold):
+        raise Usage("with --check the lines name sources, zones and the text")
+    if given.check is None and not given.operands:
         raise Usage("a SOURCE is missing")
-    if len(sources) > 1 and given.origin:
+    if len(given.operands) > 1 and given.origin:
         raise Usage("--origin goes with one zone")
-    reader, worst, found = reader_of(given, output), 0, []
-    for it in at_once(sources, given.jobs, lambda source: summed(source, reader, given.fold)):
-        if isinstance(it, Failure):
-            output.note(it.sentence())
-            worst = max(worst, it.status)
-        else:
-            found.append(it)
-    return written([object_of(it, copy) for copy, it in found], [f"{it}\n" for _, it in found], worst, given, output)
+    sources, reader = sources_of(given.operands), reader_of(given, output)
+    wanted: list[Source | Sum] = [*sources, *(stored(given.check, reader) if given.check is not None else ())]
+    worst, lines, sums = 0, "", []
+    for it, found in zip(wanted, at_once(wanted, given.jobs, lambda it: summed(it, reader, given.fold))):
+        if isinstance(found, Failure):
+            worst = max(worst, output.failed(found))
+            continue
+        copy, now = found
+        if isinstance(it, Source):
+            lines += f"{now}\n"
+            sums.append(object_of(copy, now))
+            continue
+        result = "same" if now == it else "one-serial" if now.serial == it.serial else "different"
+        text = {"one-serial": alarm(it.serial), "different": f"different: serial {now.serial}, was {it.serial}"}.get(result, result)
+        worst = max(worst, 0 if now == it else 1)
+        lines += f"{one_field(it.source)}: {text}\n"
+        sums.append(object_of(copy, now, result=result))
+    found_sums = {"format": "zonectl-sum/1", "status": int(worst), "sums": sums}
+    return output.answer(found_sums if given.json else lines, worst, given.output)
 
 
-def summed(source: Source, reader: Reader, is_folded: bool) -> tuple[Copy, Sum] | Failure:
-    """Returns the digest of a source, or why there is none."""
+def summed(it: Source | Sum, reader: Reader, is_folded: bool) -> tuple[Copy, Sum]:
+    """Returns a source, or that of a line, and its digest now. Raises Failure."""
+    if isinstance(it, Source):
+        copy, canonical = reader.copy(it), engine.CANONICAL + "-folded" * is_folded
+    else:
+        copy, canonical = again(it, reader), it.canonical
+    text = folded_text(copy.text) if canonical.endswith("-folded") else copy.text
+    return copy, Sum(hashlib.sha256(text).hexdigest(), canonical, copy.serial, copy.apex, copy.source)
+
+
+def again(it: Sum, reader: Reader) -> Copy:
+    """Returns what the source of a line is now. Raises Failure."""
     try:
-        copy = reader.copy(source)
-        return copy, sum_of(copy, is_folded)
-    except Failure as failure:
-        return failure
+        zone = absolute(it.zone)
+    except ValueError:
+        raise Undone(f"{it.zone} is no name of a zone", it.source) from None
+    copy = replace(reader, origin=zone).copy(source_of(it.source))
+    if copy.apex != it.zone:
+        raise Undone(f"it is the zone {copy.apex}, and was {it.zone}", it.source)
+    return copy
 
 
-def object_of(it: Sum, copy: Copy, **more: str) -> dict[str, Any]:
+def object_of(copy: Copy, it: Sum, **more: str) -> dict[str, Any]:
     """Returns a digest as an object."""
     return {"source": it.source, "zone": it.zone, "serial": it.serial, "records": copy.records, "canonical": it.canonical,
             "sha256": it.sha256, **more}
 
 
-def written(sums: list[dict[str, Any]], lines: list[str], status: int, given: argparse.Namespace, output: Output) -> int:
-    """Writes objects or lines, and returns the status."""
-    if given.quiet and not status and not given.output:
-        return status
-    if given.json:
-        output.json({"format": "zonectl-sum/1", "status": int(status), "sums": sums}, given.output)
-    else:
-        output.result("".join(lines), given.output)
-    return status
-
-
 def stored(path: str, reader: Reader) -> Iterator[Sum]:
     """Yields the lines of a file. Raises Undone at one that isn't such a line."""
-    with about(path):
-        limits = reader.access.limits
-        text = (from_descriptor(0, limits) if path == "-" else from_path(path, limits)).decode("utf-8", "surrogateescape")
-    for number, line in enumerate(text.split("\n"), 1):
-        if not line.strip() or line.startswith("#"):
-            continue
+    for number, line in reader.lines(path):
         found = LINE.fullmatch(line)
         if not found:
             raise Undone("it isn't a line of zonectl sum", path, line=number)
@@ -121,40 +118,3 @@ def stored(path: str, reader: Reader) -> Iterator[Sum]:
         octets = found[5].encode("utf-8", "surrogateescape").decode("latin-1")
         source = ESCAPED.sub(lambda it: chr(int(it[1], 16)), octets).encode("latin-1").decode("utf-8", "surrogateescape")
         yield Sum(found[1], found[2], int(found[3]), found[4], source)
-
-
-def check(given: argparse.Namespace, output: Output) -> int:
-    """Compares zones with stored digests, a line each."""
-    reader = reader_of(given, output)
-    worst, lines, sums = 0, [], []
-    stored_sums = list(stored(given.check, reader))
-    for it, found in zip(stored_sums, at_once(stored_sums, given.jobs, lambda it: again(it, reader))):
-        if isinstance(found, Failure):
-            output.note(found.sentence())
-            worst = max(worst, found.status)
-            continue
-        copy, now = found
-        result = "same" if now == it else "one-serial" if now.serial == it.serial else "different"
-        text = {"one-serial": alarm(it.serial), "different": f"different: serial {now.serial}, was {it.serial}"}.get(result, result)
-        worst = max(worst, 0 if now == it else 1)
-        lines.append(f"{one_field(it.source)}: {text}\n")
-        sums.append(object_of(now, copy, result=result))
-    return written(sums, lines, worst, given, output)
-
-
-def again(it: Sum, reader: Reader) -> tuple[Copy, Sum] | Failure:
-    """Returns the digest that the source of a line has now, or why there is none."""
-    try:
-        copy = replace(reader, origin=_origin(it)).copy(source_of(it.source))
-        if copy.apex != it.zone:
-            raise Undone(f"it is the zone {copy.apex}, and was {it.zone}", it.source)
-        return copy, sum_of(copy, it.canonical.endswith("-folded"))
-    except Failure as failure:
-        return failure
-
-
-def _origin(it: Sum) -> str | None:
-    try:
-        return absolute(it.zone)
-    except ValueError:
-        return None
