@@ -29,6 +29,8 @@ int main(void) {
         zonenorm_normalise_into(&given, room, sizeof room, &answer); expect("normalise_into", &answer, 3, 45);
         zonenorm_records(&given, &text, &answer); expect("records", &answer, 3, 45); zonenorm_free(&text);
         zonenorm_compare(&given, &given, &text, &answer); expect("compare", &answer, 3, 45); zonenorm_free(&text);
+        zonenorm_diff(&given, &given, 0, &text, &reason, &answer); expect("diff", &answer, 3, 45);
+        zonenorm_free(&text); zonenorm_free(&reason);
         zonenorm_verify(&given, &text, &answer); expect("verify", &answer, 3, 45); zonenorm_free(&text);
         zonenorm_digest(&given, 1, &text, &answer); expect("digest", &answer, 3, 45); zonenorm_free(&text);
         zonenorm_generic(&given, &text, &reason, &answer);

@@ -7,8 +7,8 @@
  * header, the compiler, the linker, malloc, and what a caller has to keep to:
  *  - A pointer and a length are those of readable octets that don't change during the call. NULL goes with length 0. Lengths are
  *    below 2^63. A zonenorm_input is fully initialised: start from ZONENORM_INPUT_INIT.
- *  - text, reason, answer and room are the caller's alone: they overlap neither one another nor the input. What was in *text before
- *    is overwritten and not freed.
+ *  - text, reason, removed, added, answer and room are the caller's alone: they overlap neither one another nor the input. What was
+ *    in *text before is overwritten and not freed.
  *  - zonenorm_free frees a text, once. So does free(3), unless len is 0. A text has no NUL at its end.
  *  - malloc, realloc and free are those of one allocator. There is no call from a signal handler, nor in the child of a fork from a
  *    process with threads. A thread has 256 KiB of stack. */
@@ -52,16 +52,22 @@ typedef struct zonenorm_input {
 
 enum zonenorm_status {
     ZONENORM_OK = 0,          /* accepted; the same zone; verified */
-    ZONENORM_DIFFERENT = 1,   /* two zones differ, first at `line` of their canonical texts; not verified */
+    ZONENORM_DIFFERENT = 1,   /* two zones differ, first at `line` of their canonical texts (not of zonenorm_diff); not verified */
     ZONENORM_BAD_ORIGIN = 2,  /* the origin spells no absolute name */
     ZONENORM_REFUSED = 3,     /* the input denotes no zone; the text is the line that the program prints, without a line feed,
                                  or empty if there was no memory for it */
     ZONENORM_NO_MEMORY = 4,   /* an allocation failed */
-    ZONENORM_UNSUPPORTED = 5, /* a kind or an algorithm that this library doesn't have */
+    ZONENORM_UNSUPPORTED = 5, /* a kind, an algorithm or a flag that this library doesn't have */
     ZONENORM_WANTS_FILE = 6   /* reserved for ZONENORM_FILES */
 };
 
 enum zonenorm_place { ZONENORM_WHOLE = 0, ZONENORM_LINE = 1, ZONENORM_MESSAGE = 2 };
+
+/* What zonenorm_diff is asked for. */
+enum zonenorm_flag {
+    ZONENORM_WIRE = 1,      /* each record as an uncompressed message has it, and not as its canonical line */
+    ZONENORM_FOLD_NAMES = 2 /* names in record data are compared without regard to case (RFC 4343) */
+};
 
 /* A field that says nothing is 0. */
 typedef struct zonenorm_answer {
@@ -71,7 +77,7 @@ typedef struct zonenorm_answer {
     uint32_t place;    /* enum zonenorm_place */
     uint64_t line;     /* the line or the message of the fault, from 1; the first line at which two texts differ */
     uint64_t offset;   /* in the message */
-    uint64_t count;    /* records of an accepted zone; entries that state no data */
+    uint64_t count;    /* records of an accepted zone, or of a difference; entries that state no data */
     uint32_t file;     /* reserved for ZONENORM_FILES */
     uint32_t reserved;
     uint64_t value;    /* reserved for ZONENORM_FILES */
@@ -94,6 +100,13 @@ size_t zonenorm_records_into(const zonenorm_input *given, uint8_t *room, size_t 
 
 /* Compares two inputs: ZONENORM_OK if they denote one zone. The text is empty, or the line of a refusal. */
 void zonenorm_compare(const zonenorm_input *first, const zonenorm_input *second, zonenorm_octets *text, zonenorm_answer *answer);
+
+/* Hands out the records of the first zone of which the second has no equal, and those of the second of which the first has none, both
+ * in canonical order: ZONENORM_OK if there are none, else ZONENORM_DIFFERENT, and count is the number of both. flags is a sum of enum
+ * zonenorm_flag. A record keeps its letters also if names are compared without regard to case. If an input is refused, removed is the
+ * line of the refusal. */
+void zonenorm_diff(const zonenorm_input *first, const zonenorm_input *second, uint32_t flags, zonenorm_octets *removed,
+                   zonenorm_octets *added, zonenorm_answer *answer);
 
 /* Verifies the zone against its ZONEMD records (RFC 8976): ZONENORM_OK if one of them verifies it. The text has an octet for each of
  * those at the apex: 0 malformed, 1 other serial, 2 unknown scheme, 3 unknown algorithm, 4 repeated, 5 the digest differs, 6

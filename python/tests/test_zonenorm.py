@@ -172,6 +172,24 @@ class Zones(unittest.TestCase):
         self.assertEqual(set(zone) - set(difference.removed) | set(difference.added), set(other))
         self.assertEqual([it for it in zone if it in set(difference.removed)], difference.removed)
 
+    def test_difference_but_for_letters(self) -> None:
+        soa = b"@ 60 SOA . . 1 2 3 4 5\n"
+        zone = zonenorm.Zone(soa + b"d DNAME New\nk KX 10 A.\nk KX 10 B.\nt TXT a\ns 60 SVCB 1 A.\n", "x.")
+        other = zonenorm.Zone(soa + b"d DNAME new\nk KX 10 b.\nk KX 10 c.\nt TXT A\ns 61 SVCB 1 a.\n", "x.")
+        exact, folded = zonenorm.diff(zone, other), zonenorm.diff(zone, other, fold_names=True)
+        self.assertEqual(exact.removed, zone - other)
+        self.assertEqual(exact.added, other - zone)
+        self.assertEqual([(it.owner, it.ttl, it.rdata[-4:]) for it in folded.removed], [
+            ("k.x.", 60, "4100"), ("s.x.", 60, "4100"), ("t.x.", 60, '"a"')])
+        self.assertEqual([(it.owner, it.ttl, it.rdata[-4:]) for it in folded.added], [
+            ("k.x.", 60, "6300"), ("s.x.", 61, "6100"), ("t.x.", 60, '"A"')])
+        self.assertEqual(folded, zonenorm.diff(other, zone, fold_names=True)[::-1])
+
+    def test_difference_of_two_classes(self) -> None:
+        zone = zonenorm.Zone(b"@ 60 IN SOA . . 1 2 3 4 5\na 60 IN TXT a\n", "x.")
+        other = zonenorm.Zone(b"@ 60 CH SOA . . 1 2 3 4 5\na 60 CH TXT a\n", "x.")
+        self.assertEqual(zonenorm.diff(zone, other), ([*zone], [*other]))
+
     def test_wire(self) -> None:
         zone, count, at = zonenorm.Zone(octets("example.zone"), "example."), 0, 0
         wire = zone.wire()

@@ -117,6 +117,17 @@ def compare(
     return Comparison(answer.status == _ffi.OK, answer.line if answer.status else None)
 
 
+def changes(text: bytes, other: bytes, fold_names: bool) -> tuple[bytes, bytes]:
+    """Return the lines of one canonical text of which another has no equal, and those of the other of which it has none."""
+    removed, added, answer = _ffi.Octets(), _ffi.Octets(), _ffi.Answer()
+    flags = _ffi.FOLD_NAMES if fold_names else 0
+    with _Given(text, ".", False, None) as first, _Given(other, ".", False, None) as second:
+        _ffi.LIBRARY.zonenorm_diff(first.input, second.input, flags, byref(removed), byref(added), byref(answer))
+    gone, come = _ffi.taken(removed), _ffi.taken(added)
+    _check(answer, gone)
+    return gone, come
+
+
 def verify(data: Buffer, origin: str, *, words: bool = True, max_octets: int | None = None) -> tuple[bool, list[str]]:
     r"""Verify a zone against its ZONEMD records (RFC 8976).
 

@@ -10,6 +10,7 @@ ABI = 1
 FILE, TRANSFER, ALL_TYPES, FILES = range(4)
 OK, DIFFERENT, BAD_ORIGIN, REFUSED, NO_MEMORY, UNSUPPORTED, WANTS_FILE = range(7)
 WHOLE, LINE, MESSAGE = range(3)
+WIRE, FOLD_NAMES = 1, 2
 
 
 class Octets(Structure):
@@ -45,6 +46,7 @@ SIGNATURES: dict[str, tuple[Any, list[Any]]] = {
     "zonenorm_records": (None, [_IN, _TEXT, _ANSWER]),
     "zonenorm_records_into": (c_size_t, [_IN, c_void_p, c_size_t, _ANSWER]),
     "zonenorm_compare": (None, [_IN, _IN, _TEXT, _ANSWER]),
+    "zonenorm_diff": (None, [_IN, _IN, c_uint32, _TEXT, _TEXT, _ANSWER]),
     "zonenorm_verify": (None, [_IN, _TEXT, _ANSWER]),
     "zonenorm_digest": (None, [_IN, c_uint32, _TEXT, _ANSWER]),
     "zonenorm_generic": (None, [_IN, _TEXT, _TEXT, _ANSWER]),

@@ -5,7 +5,7 @@ import os
 from collections.abc import Iterator
 from typing import NamedTuple
 
-from ._calls import MOST_OCTETS, TRANSFER, Buffer, normalise, records
+from ._calls import MOST_OCTETS, TRANSFER, Buffer, changes, normalise, records
 
 
 class Record(NamedTuple):
@@ -155,15 +155,28 @@ class Zone:
         return f"<{type(self).__name__} {self.apex} serial {self.serial}, {len(self)} records>"
 
 
-def diff(first: Zone, second: Zone) -> Difference:
+def _record_list(lines: bytes) -> list[Record]:
+    """Return the records of canonical lines."""
+    return [*map(_record, lines.decode("ascii").split("\n")[:-1])]
+
+
+def diff(first: Zone, second: Zone, *, fold_names: bool = False) -> Difference:
     r"""Return the records that the second zone lacks (`removed`), and those that the first lacks (`added`).
 
-    Data is compared octet by octet. The canonical text keeps the letters of names in the data of further types.
+    Data is compared octet by octet. The canonical text keeps the letters of names in the data of further types; with
+    fold_names=True these are compared without regard to case (RFC 4343), and a record keeps its letters.
+
+    Raises MemoryError.
 
     >>> zone = Zone(b"@ 60 SOA ns h 1 2 3 4 5\n@ 60 NS ns\n", "example.")
     >>> other = Zone(b"@ 60 SOA ns h 1 2 3 4 5\n@ 60 NS ns2\n", "example.")
     >>> print(diff(zone, other), end="")
     -example. 60 IN NS ns.example.
     +example. 60 IN NS ns2.example.
+    >>> zone = Zone(b"@ 60 SOA ns h 1 2 3 4 5\nold 60 DNAME New\n", "example.")
+    >>> other = Zone(b"@ 60 SOA ns h 1 2 3 4 5\nold 60 DNAME new\n", "example.")
+    >>> bool(diff(zone, other)), bool(diff(zone, other, fold_names=True))
+    (True, False)
     """
-    return Difference(first - second, second - first)
+    removed, added = changes(first.text, second.text, fold_names)
+    return Difference(_record_list(removed), _record_list(added))

@@ -19,7 +19,7 @@ pub const REFUSED: u32 = 3;
 /// An allocation failed.
 pub const NO_MEMORY: u32 = 4;
 
-/// This library doesn't have that kind of input or that algorithm.
+/// This library doesn't have that kind of input, that algorithm or that flag.
 pub const UNSUPPORTED: u32 = 5;
 
 /// The answer of a call, beside its text. A field that says nothing is 0.
@@ -39,7 +39,7 @@ pub struct Answer {
     pub line: u64,
     /// The offset in the message.
     pub offset: u64,
-    /// The number of records of an accepted zone, or of entries that state no data.
+    /// The number of records of an accepted zone or of a difference, or of entries that state no data.
     pub count: u64,
     /// Reserved for the file of the fault: 0.
     pub file: u32,

@@ -14,7 +14,7 @@ use zone_engine::{Form, Verdict, Which, compare_bytes};
 use zone_rdata::Stop;
 
 /// The number of one of two inputs.
-fn input_of(which: Which) -> u32
+pub(crate) fn input_of(which: Which) -> u32
     ensures { result ≡ number_of which }
 {
     match which {

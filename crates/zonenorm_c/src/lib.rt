@@ -8,6 +8,7 @@
 
 mod answer;
 mod comparing;
+mod differing;
 mod digests;
 mod given;
 mod normalising;
@@ -18,6 +19,7 @@ mod zone;
 
 pub use answer::{Answer, zonenorm_abi};
 pub use comparing::zonenorm_compare;
+pub use differing::zonenorm_diff;
 pub use digests::{zonenorm_digest, zonenorm_verify};
 pub use given::Given;
 pub use normalising::{zonenorm_normalise, zonenorm_normalise_into};

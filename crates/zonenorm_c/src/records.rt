@@ -17,7 +17,7 @@ use zone_set::Zone;
 
 /// Appends the canonical octets of a record (RFC 4034 6.2): owner, type, class, TTL, the length of
 /// its data and the data.
-fn push_octets(rr: &RrRef<'_>, octets: &mut Vec<u8>) -> Result<(), AllocError>
+pub(crate) fn push_octets(rr: &RrRef<'_>, octets: &mut Vec<u8>) -> Result<(), AllocError>
     ensures { OnOk result (octets.new.items ≡ octets.old.items ++ record_octets (record_of rr.now)) }
 {
     rr.rdata.known();

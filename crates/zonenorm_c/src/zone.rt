@@ -1,9 +1,13 @@
 //! The zone that a caller's input denotes.
 ghost use Rattle.std.specs.Prelude.{IfErr, IfOk};
 ghost use Rattle.zonenorm_c.specs.Answering.{IsHalt};
-ghost use Rattle.zonenorm_c.specs.Giving.{DenotesGiven};
+ghost use Rattle.zone_engine.specs.Form.{read_as_with};
+ghost use Rattle.zone_engine.specs.Input.{InputDenotes};
+ghost use Rattle.zone_engine.specs.Normalise.{IsOfBytes};
+ghost use Rattle.zone_engine.specs.Refusal.{IfRefused, IsRefusal};
+ghost use Rattle.zonenorm_c.specs.Giving.{DenotesGiven, source_octets};
 
-use crate::given::{Given, Unread, read_given};
+use crate::given::{Given, Readable, Unread, read_given};
 use std::alloc::Global;
 use zone_engine::{Form, accepted_bytes};
 use zone_rdata::{Fault, Place, Stop};
@@ -18,6 +22,22 @@ pub(crate) enum Halt {
     Refused(Fault, Place),
 }
 
+/// The zone that an input which is read denotes.
+///
+/// # Errors
+///
+/// Its refusal, or `Memory`.
+pub(crate) fn zone_in(alloc: Global, input: &Readable<'_>) -> Result<Zone, Stop>
+    ensures zone { IfOk result (InputDenotes
+        (read_as_with input.now.origin (source_octets input.now.source))) }
+    ensures stopped { IfErr result IsOfBytes }
+    ensures fault { IfErr result (λ stop. IfRefused stop (IsRefusal
+        (read_as_with input.now.origin (source_octets input.now.source)))) }
+{
+    let form = Form::with_origin(&input.origin);
+    accepted_bytes(alloc, form, input.source.octets())
+}
+
 /// The zone that an input denotes.
 ///
 /// # Errors
@@ -29,14 +49,11 @@ pub(crate) fn zone_of(alloc: Global, given: &Given<'_>) -> Result<Zone, Halt>
 {
     match read_given(alloc, given) {
         Err(why) => Err(Halt::Unread(why)),
-        Ok(input) => {
-            let form = Form::with_origin(&input.origin);
-            match accepted_bytes(alloc, form, input.source.octets()) {
-                Ok(zone) => Ok(zone),
-                Err(Stop::Refused(fault, place)) => Err(Halt::Refused(fault, place)),
-                Err(Stop::Memory) => Err(Halt::Unread(Unread::Memory)),
-                Err(Stop::Read | Stop::Write) => unreachable!(),
-            }
-        }
+        Ok(input) => match zone_in(alloc, &input) {
+            Ok(zone) => Ok(zone),
+            Err(Stop::Refused(fault, place)) => Err(Halt::Refused(fault, place)),
+            Err(Stop::Memory) => Err(Halt::Unread(Unread::Memory)),
+            Err(Stop::Read | Stop::Write) => unreachable!(),
+        },
     }
 }

@@ -27,6 +27,17 @@ pub enum Comparison {
     },
 }
 
+/// The records in which two zones differ, in canonical order.
+#[derive(Debug, PartialEq, Eq)]
+pub struct Difference {
+    /// The records of the first zone of which the second has no equal, a canonical line each.
+    pub removed: Text,
+    /// The records of the second zone of which the first has none.
+    pub added: Text,
+    /// How many records both texts have.
+    pub records: u64,
+}
+
 /// A hash algorithm of ZONEMD records (RFC 8976 5.3).
 #[derive(Clone, Copy, Debug, PartialEq, Eq)]
 pub enum Algorithm {
@@ -121,6 +132,22 @@ pub fn compare(first: &Input<'_>, second: &Input<'_>) -> Result<Comparison, Erro
         ffi::DIFFERENT => Comparison::Different { line: answer.line },
         _ => Comparison::Same,
     })
+}
+
+/// The records in which two zones differ. With `fold_names` names in record data are compared without regard to case (RFC 4343); a
+/// record keeps its letters.
+///
+/// # Errors
+///
+/// `Refused`, with the input that is refused; `BadOrigin`; `NoMemory`.
+pub fn diff(first: &Input<'_>, second: &Input<'_>, fold_names: bool) -> Result<Difference, Error> {
+    let (one, other) = (first.lent(), second.lent());
+    let flags = if fold_names { ffi::FOLD_NAMES } else { 0 };
+    let mut octets = Text::NONE;
+    // As in `call_on`; what is added is taken at once.
+    let made = call(|removed, answer| unsafe { ffi::zonenorm_diff(&one, &other, flags, removed, &mut octets, answer) });
+    let added = unsafe { Text::taken(octets) };
+    made.map(|(removed, answer)| Difference { removed, added, records: answer.count })
 }
 
 /// What is found of each ZONEMD record at the apex (RFC 8976 4). The zone is verified if one is `Verified`.

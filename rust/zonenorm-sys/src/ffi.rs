@@ -57,6 +57,9 @@ pub const WHOLE: u32 = 0;
 pub const LINE: u32 = 1;
 pub const MESSAGE: u32 = 2;
 
+pub const WIRE: u32 = 1;
+pub const FOLD_NAMES: u32 = 2;
+
 extern "C" {
     pub fn zonenorm_abi() -> u32;
     pub fn zonenorm_normalise(given: *const zonenorm_input, text: *mut zonenorm_octets, answer: *mut zonenorm_answer);
@@ -64,6 +67,7 @@ extern "C" {
     pub fn zonenorm_records(given: *const zonenorm_input, text: *mut zonenorm_octets, answer: *mut zonenorm_answer);
     pub fn zonenorm_records_into(given: *const zonenorm_input, room: *mut u8, room_len: usize, answer: *mut zonenorm_answer) -> usize;
     pub fn zonenorm_compare(first: *const zonenorm_input, second: *const zonenorm_input, text: *mut zonenorm_octets, answer: *mut zonenorm_answer);
+    pub fn zonenorm_diff(first: *const zonenorm_input, second: *const zonenorm_input, flags: u32, removed: *mut zonenorm_octets, added: *mut zonenorm_octets, answer: *mut zonenorm_answer);
     pub fn zonenorm_verify(given: *const zonenorm_input, text: *mut zonenorm_octets, answer: *mut zonenorm_answer);
     pub fn zonenorm_digest(given: *const zonenorm_input, algorithm: u32, text: *mut zonenorm_octets, answer: *mut zonenorm_answer);
     pub fn zonenorm_generic(given: *const zonenorm_input, text: *mut zonenorm_octets, reason: *mut zonenorm_octets, answer: *mut zonenorm_answer);

@@ -28,7 +28,9 @@ mod input;
 mod records;
 mod text;
 
-pub use calls::{compare, digest, generic, normalise, presentation, records, verify, Algorithm, Comparison, Normalised, Verdict};
+pub use calls::{
+    compare, diff, digest, generic, normalise, presentation, records, verify, Algorithm, Comparison, Difference, Normalised, Verdict,
+};
 pub use error::{Error, Place, Refusal};
 pub use input::Input;
 pub use records::{Record, Records, WireRecords};

@@ -3,7 +3,7 @@
 use std::num::NonZeroU64;
 use std::thread;
 use zonenorm_sys::{
-    compare, digest, generic, normalise, presentation, records, verify, Algorithm, Comparison, Error, Input, Place, Verdict,
+    compare, diff, digest, generic, normalise, presentation, records, verify, Algorithm, Comparison, Error, Input, Place, Verdict,
 };
 
 const FIRST: &[u8] = include_bytes!("../../../examples/first.zone");
@@ -55,6 +55,22 @@ fn zones_are_compared() {
     assert_eq!(compare(&one, &other), Ok(Comparison::Same));
     let longer = format!("{CANONICAL}zz.example. 300 IN A 192.0.2.9\n");
     assert_eq!(compare(&one, &Input::file(longer.as_bytes(), ".")), Ok(Comparison::Different { line: 5 }));
+}
+
+#[test]
+fn differences_of_zones() {
+    let soa = "@ 60 SOA . . 1 2 3 4 5\n";
+    let (first, second) = (format!("{soa}d DNAME New\nt TXT a\n"), format!("{soa}d DNAME new\nt TXT b\n"));
+    let (one, other) = (Input::file(first.as_bytes(), "x."), Input::file(second.as_bytes(), "x."));
+    let folded = diff(&one, &other, true).unwrap();
+    assert_eq!((&folded.removed[..], &folded.added[..]), (&b"t.x. 60 IN TXT \"a\"\n"[..], &b"t.x. 60 IN TXT \"b\"\n"[..]));
+    assert_eq!((folded.records, diff(&one, &other, false).unwrap().records), (2, 4));
+    let same = diff(&one, &one, false).unwrap();
+    assert_eq!((&same.removed[..], &same.added[..], same.records), (&b""[..], &b""[..], 0));
+    let Err(Error::Refused(refusal)) = diff(&Input::file(FIRST, "example."), &Input::file(REFUSED, "example."), true) else {
+        panic!("accepted")
+    };
+    assert_eq!((refusal.fault, refusal.which), (41, Some(2)));
 }
 
 #[test]
