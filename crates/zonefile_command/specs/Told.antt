@@ -47,10 +47,10 @@ UnreadBy None line = (name : List ℕ) × TellsUnreadable name line
 abbrev pub TellsUnread : StackState → List ℕ → Type 0
 TellsUnread stack line = UnreadBy (wanted_name stack) line
 
--- what is told of the file of the command line, of this path
-abbrev pub TellsInput : List ℕ → List ℕ → Stop → List ℕ → Type 0
-TellsInput words path Read line = line ≡ unreadable_main_line path
-TellsInput words path stop line = line ≡ words ++ stop_line stop
+-- the line on the file of the command line, of this path
+abbrev pub main_line : List ℕ → List ℕ → Stop → List ℕ
+main_line words path Read = unreadable_main_line path
+main_line words path stop = words ++ stop_line stop
 
 -- the line on an input that gives no zone, after these words: the files that can't be read are named
 -- without them
@@ -60,7 +60,7 @@ IsStopLine words path (stops.Files (Expansion fault) stack) line =
 IsStopLine words path (stops.Files Unread stack) line = TellsUnread stack line
 IsStopLine words path (stops.Files (Text refusal) stack) line =
     TellsText words refusal.stop refusal.entry line
-IsStopLine words path (stops.Input stop) line = TellsInput words path stop line
+IsStopLine words path (stops.Input stop) line = line ≡ main_line words path stop
 
 -- the exit status: 3 if the input is refused, 4 if it can't be read or memory was refused
 abbrev pub files_status : FilesStop → ℕ

@@ -3,8 +3,7 @@ ghost use Rattle.std.specs.Prelude.{◌≡◌, ◌++◌, ℕ, List, IfErr, OnErr
 ghost use Rattle.zone_print.specs.Device.{WorksOn};
 ghost use Rattle.zone_print.specs.Writing.{IsFailedWrite};
 ghost use Rattle.zone_engine.specs.Telling.{TellsLine, WritesLine, WritesPartOfLine, stop_line, stop_status};
-ghost use Rattle.zone_rdata.specs.declared.fault.Stop.TheVariants.{Read};
-ghost use Rattle.zonefile_command.specs.Told.{IsPlaced, IsStopLine, TellsText, TellsUnread, TellsUnreadable, files_status};
+ghost use Rattle.zonefile_command.specs.Told.{IsPlaced, IsStopLine, TellsText, TellsUnread, TellsUnreadable, files_status, main_line};
 
 use command_input::status;
 use zone_engine::{OUT_OF_MEMORY, READ_FAILED, WRITE_FAILED, write_line, write_refusal};
@@ -81,8 +80,7 @@ pub(crate) fn write_stop<W: OctetWriter>(
         FilesStop::Files(ExpandedRefusal::Text(refusal), stack) => {
             write_text_refusal(writer, words, refusal, stack)
         }
-        FilesStop::Input(Stop::Read) => write_unreadable_main(writer, path),
-        FilesStop::Input(stop) => write_input_stop(writer, words, stop),
+        FilesStop::Input(stop) => write_main_stop(writer, words, path, stop),
     }
 }
 
@@ -107,6 +105,28 @@ fn write_text_refusal<W: OctetWriter>(
     match &refusal.entry {
         Some(entry) => write_data_fault(writer, words, entry, place),
         None => write_fault(writer, words, fault, place),
+    }
+}
+
+/// Writes why the file of this path, which is that of the command line, stopped a run.
+fn write_main_stop<W: OctetWriter>(
+    writer: &mut W,
+    words: &str,
+    path: &str,
+    stop: &Stop,
+) -> Result<(), Stop>
+    ensures written { OnOk result (WritesLine (main_line words.now path.now stop.now)
+        (W.state writer.old) (W.state writer.new)) }
+    ensures part { OnErr result (WritesPartOfLine (main_line words.now path.now stop.now)
+        (W.state writer.old) (W.state writer.new)) }
+    ensures works { OnOk result (WorksOn (W.state writer.old) (W.state writer.new)) }
+    ensures failed { IfErr result (IsFailedWrite (W.state writer.old) (W.state writer.new)) }
+{
+    match stop {
+        Stop::Read => write_unreadable_main(writer, path),
+        Stop::Refused(fault, place) => write_refusal(writer, words, fault, *place),
+        Stop::Write => write_line(writer, words, WRITE_FAILED),
+        Stop::Memory => write_line(writer, words, OUT_OF_MEMORY),
     }
 }
 
