@@ -1,15 +1,19 @@
 -- From what is made of a zone's text, and written of it, to what is left.
-use Rattle.std.proofs.Common.{◌≡◌, ℕ, List, subst}
+use Rattle.std.proofs.Common.{◌≡◌, ℕ, List, subst, sym}
 use Rattle.std.proofs.KnownBytes.{Keeps-refl}
 use Rattle.std.specs.Prelude.{Result, IfErr, IfOk, Ok, Err, OnErr, OnOk}
 use Rattle.std.specs.Io.KnownBytes.{Appends}
 use Rattle.zone_rdata.specs.declared.fault.Stop.{Stop}
 use Rattle.zone_rdata.specs.declared.fault.Stop.TheVariants.{Memory, Read, Refused, Write}
-use Rattle.zone_print.specs.Canonical.{text_limit}
+use Rattle.zone_set.specs.Zone.{Zone}
+use Rattle.zone_print.specs.Canonical.{canon, text_limit}
 use Rattle.zone_print.specs.Device.{Device}
 use Rattle.zone_print.specs.Writing.{AppendsPart, IsFailedWrite, StopsPush}
 use Rattle.zone_print.specs.Writing as pushes
 use Rattle.words_print.specs.Shown.{IsShownText}
+use Rattle.zonefile_command.specs.Run.{AppendsText, IsTextOf}
+use Rattle.zonefile_command.specs.declared.notation.Notation.{Notation}
+use Rattle.zonefile_command.specs.declared.notation.Notation.TheVariants.{Presentation}
 use Rattle.zonefile_command.specs.Presented.{StopsPresenting, StopsShowing, large, memory, stops, write}
 
 -- the text wasn't made
@@ -29,3 +33,9 @@ unwritten text shown old new Memory is part failed = absurd failed
 pub of_text : (text other : List ℕ) (old new : Device) (r : Result (Unit {0}) Stop) → text ≡ other → IfErr r (StopsShowing text old new) → IfErr r (StopsPresenting other old new)
 of_text text other old new (Ok x) same stopped = tt
 of_text text other old new (Err why) same stopped = stops why (subst (λ (t : List ℕ). StopsShowing t old new why) same stopped)
+
+-- what is shown for the text of a zone is its text in presentation format
+pub appended : (notation : Notation) (z : Zone) (old new : Device) → notation ≡ Presentation → (text : List ℕ) → IsShownText (canon z) text
+    → Appends old.octets new.octets text → AppendsText notation z old new
+appended notation z old new same text is written =
+    record { text = text; is = subst (λ (n : Notation). IsTextOf n z text) (sym same) is; written = written }
