@@ -101,14 +101,12 @@ fn command_lines(rt: HostRuntime) -> Result<(), Fail> {
 #[test]
 fn the_name_of_the_program_is_passed_over(rt: HostRuntime) -> Result<(), Fail> {
     let words = words_of(rt.alloc(), "zonefile explain Example file")?;
-    match order_after_name(rt.alloc(), &words) {
-        Ok(
-            Order {
-                action: Action::Explain(source),
-                ..
-            },
-        ) => check_octets("the file", source.file.as_bytes(), b"file"),
-        Ok(_) | Err(_) => Err(Fail::from("no order to explain")),
+    let Ok(order) = order_after_name(rt.alloc(), &words) else {
+        return Err(Fail::from("no order"));
+    };
+    match &order.action {
+        Action::Explain(source) => check_octets("the file", source.file.as_bytes(), b"file"),
+        _ => Err(Fail::from("no order to explain")),
     }
 }
 
