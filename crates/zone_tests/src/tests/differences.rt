@@ -20,8 +20,9 @@ fn push_changes(
 ) -> Result<(), Fail> {
     let (first, second) = parted(asked, "--\n")?;
     let (zone, other) = (zone_of(alloc, first)?, zone_of(alloc, second)?);
-    let differ = write_difference(alloc, &zone, &other, case, out)
-        .map_err(|_| Fail::from("a difference"))?;
+    let differ = write_difference(alloc, &zone, &other, case, out).map_err(|_| Fail::from(
+        "a difference",
+    ))?;
     if differ == out.is_empty() {
         return Err(Fail::from("whether they differ"));
     }
