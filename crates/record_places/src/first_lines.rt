@@ -1,0 +1,126 @@
+//! The lines of the entries that first state the records of a zone.
+ghost use Rattle.std.specs.Prelude.{◌≡◌, ◌+◌, ◌<◌, ◌^◌, ◌++◌, ◌∷◌, ℕ, [], List, None, false, length, IfOk, OnOk};
+ghost use Rattle.zone_name.specs.Common.{Labels};
+ghost use Rattle.zone_name.specs.Name.{folded};
+ghost use Rattle.zone_rdata.specs.Lent.{placed_of};
+ghost use Rattle.zone_rdata.specs.RrSource.{first_of};
+ghost use Rattle.zone_rdata.specs.declared.record.Placed.{Placed};
+ghost use Rattle.zone_set.specs.Refusal.{records_of};
+ghost use Rattle.zone_set.specs.Zone.{SameRecords};
+ghost use Rattle.zone_words.specs.WithWords.{FileStatesWithWords};
+ghost use Rattle.record_places.specs.FirstLines.{EachFirstOn};
+ghost use Rattle.record_places.specs.SoFar.{AreLinesSoFar, Finds, records_in};
+
+use crate::sorted_records::SortedRecords;
+use std::alloc::{AllocError, Global};
+use zone_engine::PIECE;
+use zone_name::CasedName;
+use zone_rdata::{LendingSource, Place, PlacedRef};
+use zone_set::Zone;
+use zone_text::TextSource;
+use zone_text::laws::file::{a_file_has_one_reading, a_file_states_what_is_read};
+use zone_text::laws::given_records::an_answer_is_given;
+use zone_words::laws::joined::a_rewriting_states_the_files_records;
+use zone_words::rewrite_file;
+
+/// For each record of a zone the line of the entry that first states it, where the zone is that of the
+/// records of this master file. It keeps the file's generic form while it runs.
+///
+/// # Errors
+///
+/// `AllocError`.
+pub(crate) fn first_lines(
+    alloc: Global,
+    origin: &CasedName,
+    octets: &[u8],
+    zone: &Zone,
+) -> Result<Vec<u64>, AllocError>
+    ensures { IfOk result (λ lines. (placed : List Placed)
+        → FileStatesWithWords origin.now (folded origin.now) octets.now placed
+        → SameRecords zone.now.records (records_of placed)
+        → EachFirstOn placed zone.now.records lines.items) }
+{
+    a_rewriting_states_the_files_records();
+    a_file_states_what_is_read();
+    a_file_has_one_reading();
+    let sorted = SortedRecords::of_zone(alloc, zone)?;
+    let mut lines = vec![in alloc; 0u64; sorted.len()]?;
+    let generic = rewrite_file(alloc, origin, octets)?;
+    let mut source = TextSource::new(alloc, &origin.folded());
+    read(&mut source, &generic.text, &sorted, &mut lines)?;
+    let Ok(()) = source.finish() else {
+        return Err(AllocError);
+    };
+    take(&mut source, &sorted, &mut lines);
+    Ok(lines)
+}
+
+/// Feeds octets to a source, and takes the records that they decide.
+///
+/// # Errors
+///
+/// `AllocError`.
+fn read(
+    source: &mut TextSource,
+    octets: &[u8],
+    sorted: &SortedRecords<'_>,
+    lines: &mut [u64],
+) -> Result<(), AllocError>
+    requires open { source.old.held.finished ≡ false }
+    requires fits { source.old.held.fed + length octets.now + 1 < 2 ^ 64 }
+    requires sized { length lines.old ≡ length sorted.now.records.items }
+    ensures finds { OnOk result ((origin : Labels) (fed : List ℕ)
+        → Finds origin source.old fed (records_in sorted.now.records.items) lines.old
+        → Finds origin source.new (fed ++ octets.now) (records_in sorted.now.records.items)
+        lines.new) }
+    ensures open { source.new.held.finished ≡ false }
+    ensures sized { length lines.new ≡ length lines.old }
+{
+    let mut rest = octets;
+    'pieces: while !rest.is_empty() {
+        let (piece, after) = rest.split_at(rest.len().min(PIECE));
+        let Ok(()) = source.feed(piece) else {
+            return Err(AllocError);
+        };
+        take(source, sorted, lines);
+        rest = after;
+    }
+    Ok(())
+}
+
+/// Takes the records that a source has left to give.
+fn take(source: &mut TextSource, sorted: &SortedRecords<'_>, lines: &mut [u64])
+    requires { length lines.old ≡ length sorted.now.records.items }
+    ensures finds { (origin : Labels) (fed : List ℕ)
+        → Finds origin source.old fed (records_in sorted.now.records.items) lines.old
+        → Finds origin source.new fed (records_in sorted.now.records.items) lines.new }
+    ensures held { source.new.held ≡ source.old.held }
+    ensures sized { length lines.new ≡ length lines.old }
+    ensures all { first_of source.new.pending ≡ None }
+{
+    an_answer_is_given();
+    'records: while let Some(placed) = source.first() {
+        note(sorted, lines, &placed);
+        source.skip();
+    }
+}
+
+/// Keeps the line of a record that is stated next, if it wasn't stated before.
+fn note(sorted: &SortedRecords<'_>, lines: &mut [u64], placed: &PlacedRef<'_>)
+    requires { length lines.old ≡ length sorted.now.records.items }
+    ensures so_far { (given : List Placed)
+        → AreLinesSoFar given (records_in sorted.now.records.items) lines.old
+        → AreLinesSoFar (given ++ placed_of placed.now ∷ [])
+        (records_in sorted.now.records.items) lines.new }
+    ensures sized { length lines.new ≡ length lines.old }
+{
+    let Some(index) = sorted.index_of(&placed.rr) else {
+        return;
+    };
+    let Place::Line(line) = placed.place else {
+        return;
+    };
+    if lines[index] == 0 {
+        lines[index] = line;
+    }
+}
