@@ -2,19 +2,19 @@
 use Rattle.zone_set.proofs.Common.{◌≡◌, ◌≢◌, ℕ, suc, zero, ◌+◌, ◌<◌, ◌≤◌, ◌↔◌, Equal, Less, List, [], ◌∷◌, ◌++◌, None, Option, Some, refl, sym, ap, ◌∙◌, subst, inl, inr, ⊎_elim, append_assoc, append-nil, arith, length, get_or, AllByRecursion, AllByRecursion-back, AllByRecursion-front, tied_itself, Has, Placed, Place, Record, records_of, SameRecords}
 use Rattle.std.proofs.Math.ListN.{set}
 use Rattle.std.specs.List.{slice_get}
-use Rattle.std.specs.Prelude.{replicate}
+use Rattle.std.specs.Prelude.{count_by, replicate, ◌==◌}
 use Rattle.zone_engine.proofs.Refusals.Parting.{Has-last}
 use Rattle.zone_name.specs.Common.{Labels}
 use Rattle.zone_rdata.specs.declared.fault.Place.TheVariants.{Line}
 use Rattle.zone_set.proofs.Holding.Together.{each_Has}
 use Rattle.zone_set.proofs.Ordering.SetOrder.{canonical_total}
 use Rattle.zone_set.specs.Order.{Ascends, canonical_cmp}
-use Rattle.zone_text.specs.Entries.{Entry, numbered}
+use Rattle.zone_text.specs.Entries.{Entry, entry_of, numbered}
 use Rattle.zone_text.specs.File.{EntriesState, FileStates, StatesFirst, states_none, states_one}
-use Rattle.zone_text.specs.Tokens.{Token}
+use Rattle.zone_text.specs.Tokens.{Token, text}
 use Rattle.record_places.proofs.Sought.{has_at}
 use Rattle.record_places.specs.FirstLines.{EachFirstOn, IsFirstOn}
-use Rattle.record_places.specs.SoFar.{AreOnLines, EachSoFar, IsLineSoFar, first, none}
+use Rattle.record_places.specs.SoFar.{AreOnLines, EachSoFar, IsLineSoFar, IsOnLine, first, none}
 
 -- ---- one record more
 
@@ -71,10 +71,16 @@ module _ (given : List Placed) (p : Placed) where
   )
 
   pub given_on_lines : AreOnLines (given ++ p ∷ []) → AreOnLines given
-  given_on_lines on = AllByRecursion-front given (p ∷ []) on
+  given_on_lines on = AllByRecursion-front IsOnLine given (p ∷ []) on
 
   pub last_on_line : AreOnLines (given ++ p ∷ []) → (line : ℕ) × (p.place ≡ Line line) × (0 < line)
-  last_on_line on = (AllByRecursion-back given (p ∷ []) on).0
+  last_on_line on = (AllByRecursion-back IsOnLine given (p ∷ []) on).0
+
+  pub last_line : (line : ℕ) → p.place ≡ Line line → AreOnLines (given ++ p ∷ []) → 0 < line
+  last_line line stands on =
+      let (own, is, some) = last_on_line on in
+      let same : own ≡ line = let both : Line own ≡ Line line = sym is ∙ stands in cc in
+      subst (λ n. 0 < n) same some
 
 -- ---- at the start and at the end
 
@@ -97,9 +103,9 @@ all_found placed (r ∷ records) (line ∷ lines) stated each = (
 -- the records of entries are on their lines
 on_lines : (origin : Labels) (before : List Entry) (line : ℕ) (entries : List (List Token)) (placed : List Placed) → 0 < line → EntriesState origin before (numbered line entries) placed → AreOnLines placed
 on_lines origin before line [] placed some stated = subst AreOnLines (sym stated) tt
-on_lines origin before line (tokens ∷ entries) placed some (states_none nothing others) = on_lines origin _ _ entries placed (omega arith) others
+on_lines origin before line (tokens ∷ entries) placed some (states_none nothing others) = on_lines origin (entry_of line tokens ∷ before) (line + count_by (λ c. c == 10) (text tokens)) entries placed (omega arith) others
 on_lines origin before line (tokens ∷ entries) placed some (states_one p more states stands is others) =
-    subst AreOnLines (sym is) ((line, stands, some), on_lines origin _ _ entries more (omega arith) others)
+    subst AreOnLines (sym is) ((line, stands, some), on_lines origin (entry_of line tokens ∷ before) (line + count_by (λ c. c == 10) (text tokens)) entries more (omega arith) others)
 
 pub stated_on_lines : (origin : Labels) (octets : List ℕ) (placed : List Placed) → FileStates origin octets placed → AreOnLines placed
 stated_on_lines origin octets placed it = on_lines origin [] 1 _ placed (omega arith) it.each

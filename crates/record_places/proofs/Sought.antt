@@ -1,9 +1,19 @@
 -- A record is looked up among records in canonical order.
-use Rattle.zone_set.proofs.Common.{◌≡◌, ◌≢◌, ℕ, suc, zero, ◌+◌, ◌<◌, ◌≤◌, Equal, Greater, Less, List, [], ◌∷◌, None, Option, Some, refl, sym, ap, ◌∙◌, subst, inl, inr, ⊎_elim, arith, length, AllByRecursion, ordering_reverse, tied_itself, Has, Record}
+use Rattle.zone_set.proofs.Common.{◌≡◌, ◌≢◌, ℕ, suc, zero, ◌+◌, ◌<◌, ◌≤◌, ◌⊎◌, ◌==◌, Bool, Equal, Greater, Less, List, [], ◌∷◌, None, Option, Some, refl, sym, ap, ◌∙◌, subst, inl, inr, ⊎_elim, arith, eq-eqb, get_or, length, ne_eqb, not, option_map, record_of, true, AllByRecursion, ordering_reverse, tied_itself, Has, Record}
+use Rattle.std.proofs.lemmas.Option.{slice_get-map, slice_get_read}
 use Rattle.std.specs.List.{slice_get}
+use Rattle.zone_rdata.specs.declared.lent.RrRef.{RrRef}
 use Rattle.zone_set.proofs.Holding.Together.{each_Has}
 use Rattle.zone_set.proofs.Ordering.SetOrder.{canonical_total}
 use Rattle.zone_set.specs.Order.{Ascends, canonical_cmp}
+use Rattle.record_places.specs.SoFar.{records_in}
+
+-- whether two classes differ
+pub other_class : (told : Bool) (own class : ℕ) → told ≡ not (own == class) → told ≡ true → own ≡ class → ⊥
+other_class told own class is yes = grind (arith, eq-eqb, ne_eqb)
+
+pub read_at : (records : List RrRef) (i : ℕ) (held : RrRef) → i < length records → held ≡ get_or records i held → slice_get (records_in records) i ≡ Some (record_of held)
+read_at records i held within is = slice_get-map record_of records i ∙ ap (option_map record_of) (slice_get_read records (length records) i held refl within is)
 
 -- what stands at an index is one of them, and each of them stands at one
 pub has_at : (rs : List Record) (i : ℕ) (s : Record) → slice_get rs i ≡ Some s → Has rs s

@@ -22,9 +22,12 @@ pub record AreSorted (class : ℕ) (records : List RrRef) : Type 0 where
   pub up : Ascends (records_in records)
   pub one_class : AllByRecursion (λ (r : Record). r.class ≡ class) (records_in records)
 
--- each is on a line of a file, and these begin with 1
+-- the lines of a file begin with 1
+abbrev pub IsOnLine : Placed → Type 0
+IsOnLine p = (line : ℕ) × (p.place ≡ Line line) × (0 < line)
+
 abbrev pub AreOnLines : List Placed → Type 0
-AreOnLines placed = AllByRecursion (λ p. (line : ℕ) × (p.place ≡ Line line) × (0 < line)) placed
+AreOnLines placed = AllByRecursion IsOnLine placed
 
 -- the line of the first of these records that is this one, and 0 where none is
 pub data IsLineSoFar (placed : List Placed) (r : Record) (line : ℕ) : Type 0 where

@@ -1,15 +1,12 @@
 //! The lines of the entries that first state the records of a zone.
 ghost use Rattle.std.specs.Prelude.{◌≡◌, ◌+◌, ◌<◌, ◌^◌, ◌++◌, ◌∷◌, ℕ, [], List, None, false, length, IfOk, OnOk};
 ghost use Rattle.zone_name.specs.Common.{Labels};
-ghost use Rattle.zone_name.specs.Name.{folded};
 ghost use Rattle.zone_rdata.specs.Lent.{placed_of};
 ghost use Rattle.zone_rdata.specs.RrSource.{first_of};
 ghost use Rattle.zone_rdata.specs.declared.record.Placed.{Placed};
-ghost use Rattle.zone_set.specs.Refusal.{records_of};
-ghost use Rattle.zone_set.specs.Zone.{SameRecords};
-ghost use Rattle.zone_words.specs.WithWords.{FileStatesWithWords};
-ghost use Rattle.record_places.specs.FirstLines.{EachFirstOn};
-ghost use Rattle.record_places.specs.SoFar.{AreLinesSoFar, Finds, records_in};
+ghost use Rattle.zone_files.specs.Presentation.{PresentationDenotes};
+ghost use Rattle.record_places.specs.FirstLines.{AreFirstLines};
+ghost use Rattle.record_places.specs.SoFar.{AreLinesSoFar, Finds};
 
 use crate::sorted_records::SortedRecords;
 use std::alloc::{AllocError, Global};
@@ -23,22 +20,23 @@ use zone_text::laws::given_records::an_answer_is_given;
 use zone_words::laws::joined::a_rewriting_states_the_files_records;
 use zone_words::rewrite_file;
 
-/// For each record of a zone the line of the entry that first states it, where the zone is that of the
-/// records of this master file. It keeps the file's generic form while it runs.
+/// For each record of a zone, in canonical order, the line of the entry that first states it (RFC 1035
+/// 5.1). The zone is the one that these octets denote, a master file with records of all types in
+/// presentation format; of another zone the lines mean nothing. Lines begin with 1.
+///
+/// It keeps the file's generic form while it runs, and 48 octets for each record beside its line.
 ///
 /// # Errors
 ///
 /// `AllocError`.
-pub(crate) fn first_lines(
+pub fn record_lines(
     alloc: Global,
     origin: &CasedName,
     octets: &[u8],
     zone: &Zone,
 ) -> Result<Vec<u64>, AllocError>
-    ensures { IfOk result (λ lines. (placed : List Placed)
-        → FileStatesWithWords origin.now (folded origin.now) octets.now placed
-        → SameRecords zone.now.records (records_of placed)
-        → EachFirstOn placed zone.now.records lines.items) }
+    ensures { IfOk result (λ lines. PresentationDenotes origin.now octets.now zone.now
+        → AreFirstLines origin.now octets.now zone.now.records lines.items) }
 {
     a_rewriting_states_the_files_records();
     a_file_states_what_is_read();
@@ -68,11 +66,10 @@ fn read(
 ) -> Result<(), AllocError>
     requires open { source.old.held.finished ≡ false }
     requires fits { source.old.held.fed + length octets.now + 1 < 2 ^ 64 }
-    requires sized { length lines.old ≡ length sorted.now.records.items }
+    requires sized { length lines.old ≡ length sorted.now }
     ensures finds { OnOk result ((origin : Labels) (fed : List ℕ)
-        → Finds origin source.old fed (records_in sorted.now.records.items) lines.old
-        → Finds origin source.new (fed ++ octets.now) (records_in sorted.now.records.items)
-        lines.new) }
+        → Finds origin source.old fed sorted.now lines.old
+        → Finds origin source.new (fed ++ octets.now) sorted.now lines.new) }
     ensures open { source.new.held.finished ≡ false }
     ensures sized { length lines.new ≡ length lines.old }
 {
@@ -90,10 +87,10 @@ fn read(
 
 /// Takes the records that a source has left to give.
 fn take(source: &mut TextSource, sorted: &SortedRecords<'_>, lines: &mut [u64])
-    requires { length lines.old ≡ length sorted.now.records.items }
+    requires { length lines.old ≡ length sorted.now }
     ensures finds { (origin : Labels) (fed : List ℕ)
-        → Finds origin source.old fed (records_in sorted.now.records.items) lines.old
-        → Finds origin source.new fed (records_in sorted.now.records.items) lines.new }
+        → Finds origin source.old fed sorted.now lines.old
+        → Finds origin source.new fed sorted.now lines.new }
     ensures held { source.new.held ≡ source.old.held }
     ensures sized { length lines.new ≡ length lines.old }
     ensures all { first_of source.new.pending ≡ None }
@@ -107,11 +104,11 @@ fn take(source: &mut TextSource, sorted: &SortedRecords<'_>, lines: &mut [u64])
 
 /// Keeps the line of a record that is stated next, if it wasn't stated before.
 fn note(sorted: &SortedRecords<'_>, lines: &mut [u64], placed: &PlacedRef<'_>)
-    requires { length lines.old ≡ length sorted.now.records.items }
+    requires { length lines.old ≡ length sorted.now }
     ensures so_far { (given : List Placed)
-        → AreLinesSoFar given (records_in sorted.now.records.items) lines.old
+        → AreLinesSoFar given sorted.now lines.old
         → AreLinesSoFar (given ++ placed_of placed.now ∷ [])
-        (records_in sorted.now.records.items) lines.new }
+        sorted.now lines.new }
     ensures sized { length lines.new ≡ length lines.old }
 {
     let Some(index) = sorted.index_of(&placed.rr) else {

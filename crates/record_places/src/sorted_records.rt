@@ -1,11 +1,13 @@
 //! Records of a zone that others are looked up among.
 ghost use Rattle.std.specs.Prelude.{◌≡◌, Some, IfOk, IfSome, IsNone, length, slice_get};
 ghost use Rattle.zone_rdata.specs.Lent.{record_of};
+ghost use Rattle.zone_set.specs.Order.{Ascends};
 ghost use Rattle.zone_set.specs.Zone.{Has};
 ghost use Rattle.record_places.specs.SoFar.{AreSorted, records_in};
 
 use std::alloc::{AllocError, Global};
 use std::cmp::Ordering;
+use std::marker::Model;
 use zone_rdata::{Class, RrRef};
 use zone_set::{Zone, canonical_order};
 
@@ -14,7 +16,18 @@ use zone_set::{Zone, canonical_order};
 pub(crate) struct SortedRecords<'z> {
     class: Class,
     records: Vec<RrRef<'z>>,
-    ghost sorted: { AreSorted class records.items },
+}
+
+impl<'z> Model for SortedRecords<'z> {
+    ghost use Rattle.std.specs.Prelude.{List};
+    ghost use Rattle.zone_rdata.specs.Record.{Record};
+    ghost use Rattle.record_places.specs.SoFar.{AreSorted, records_in};
+
+    ghost Value = { List Record };
+
+    ghost view = { λ s. records_in s.records.items };
+
+    ghost invariant = { λ s. AreSorted s.class s.records.items };
 }
 
 impl<'z> SortedRecords<'z> {
@@ -24,7 +37,7 @@ impl<'z> SortedRecords<'z> {
     ///
     /// `AllocError`.
     pub(crate) fn of_zone(alloc: Global, zone: &'z Zone) -> Result<SortedRecords<'z>, AllocError>
-        ensures { IfOk result (λ sorted. records_in sorted.records.items ≡ zone.now.records) }
+        ensures { IfOk result (λ sorted. sorted ≡ zone.now.records) }
     {
         let mut records = Vec::new(alloc);
         for rr in zone.records() {
@@ -38,7 +51,7 @@ impl<'z> SortedRecords<'z> {
 
     /// How many there are.
     pub(crate) fn len(&self) -> usize
-        ensures { result ≡ length self.now.records.items }
+        ensures { result ≡ length self.now }
     {
         self.records.len()
     }
@@ -46,9 +59,9 @@ impl<'z> SortedRecords<'z> {
     /// The index of a record among them.
     pub(crate) fn index_of(&self, rr: &RrRef<'_>) -> Option<usize>
         ensures found { IfSome result (λ index.
-            slice_get (records_in self.now.records.items) index ≡ Some (record_of rr.now)) }
-        ensures none { IsNone result
-            → Has (records_in self.now.records.items) (record_of rr.now) → ⊥ }
+            slice_get self.now index ≡ Some (record_of rr.now)) }
+        ensures none { IsNone result → Has self.now (record_of rr.now) → ⊥ }
+        ensures up { Ascends self.now }
     {
         if rr.class != self.class {
             return None;
