@@ -14,7 +14,7 @@ use Rattle.zone_text.specs.File.{EntriesState, FileStates, StatesFirst, states_n
 use Rattle.zone_text.specs.Tokens.{Token, text}
 use Rattle.record_places.proofs.Sought.{has_at}
 use Rattle.record_places.specs.FirstLines.{EachFirstOn, IsFirstOn}
-use Rattle.record_places.specs.SoFar.{AreOnLines, EachSoFar, IsLineSoFar, IsOnLine, first, none}
+use Rattle.record_places.specs.Machine.SoFar.{AreOnLines, EachSoFar, IsLineSoFar, IsOnLine, first, none}
 
 -- ---- one record more
 
@@ -69,6 +69,13 @@ module _ (given : List Placed) (p : Placed) where
     other_kept r line (λ same. let bad : Less ≡ Equal = sym (each_Has (λ s. canonical_cmp r s ≡ Less) records p.rr up.0 (has_at records i p.rr at)) ∙ ap (canonical_cmp r) (sym same) ∙ tied_itself canonical_total r in cc bad) each.0,
     line_put records lines i new up.1 at step each.1,
   )
+
+  -- there is a line for each record
+  pub line_at : (records : List Record) (lines : List ℕ) (i : ℕ) (r : Record) → slice_get records i ≡ Some r → EachSoFar given records lines → i < length lines
+  line_at [] lines i r at each = absurd (cc)
+  line_at (q ∷ records) [] i r at each = absurd each
+  line_at (q ∷ records) (line ∷ lines) zero r at each = omega arith
+  line_at (q ∷ records) (line ∷ lines) (suc i) r at each = let more : i < length lines = line_at records lines i r at each.1 in omega arith
 
   pub given_on_lines : AreOnLines (given ++ p ∷ []) → AreOnLines given
   given_on_lines on = AllByRecursion-front IsOnLine given (p ∷ []) on

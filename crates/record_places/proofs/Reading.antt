@@ -1,7 +1,8 @@
 -- What a source gives, record by record, and the lines of records as far as it was read.
 use Rattle.std.proofs.Common.{◌≡◌, ℕ, List, [], ◌∷◌, ◌++◌, Ok, Option, Some, None, append-nil, append_assoc, refl, sym, ap, ◌∙◌, subst}
-use Rattle.std.specs.Prelude.{◌↔◌, false, true}
-use Rattle.std.proofs.Common.{arith}
+use Rattle.std.specs.Prelude.{◌↔◌, false, replicate, true}
+use Rattle.std.proofs.Common.{arith, drop, length, take}
+use Rattle.std.proofs.Math.Seq.{take-append_seam}
 use Rattle.zone_name.specs.Common.{Labels}
 use Rattle.zone_name.specs.Name.{folded}
 use Rattle.zone_rdata.specs.FedSource.{SourceState}
@@ -19,9 +20,9 @@ use Rattle.zone_words.specs.Rewriting.{Refused}
 use Rattle.zone_words.specs.WithWords.{FileStatesWithWords}
 use Rattle.zone_words.specs.declared.refusal.Refusals.{Refusals}
 use Rattle.zone_files.specs.Presentation.{PresentationDenotes}
-use Rattle.record_places.proofs.Lines.{all_found, stated_on_lines}
+use Rattle.record_places.proofs.Lines.{all_found, none_so_far, stated_on_lines}
 use Rattle.record_places.specs.FirstLines.{AreFirstLines}
-use Rattle.record_places.specs.SoFar.{AreLinesSoFar, Finds}
+use Rattle.record_places.specs.Machine.SoFar.{AreLinesSoFar, EachSoFar, Finds}
 
 -- the first record of those that are left was taken
 pub found_more : (origin : Labels) (old new : SourceState FileKept) (p : Placed) (fed : List ℕ) (records : List Record) (lines lines' : List ℕ)
@@ -96,3 +97,27 @@ all_lines origin octets generic short z source lines rewriting states_read once 
       first = all_found denotes.placed z.records lines (λ r has. (denotes.makes.same r).0 has)
           (subst (λ ps. AreLinesSoFar ps z.records lines) same it.so_far (stated_on_lines (folded origin) generic denotes.placed states));
     }
+
+-- the same, by what the calls say of them
+pub lines_of_all : (origin : Labels) (octets generic : List ℕ) (short : Refusals) (z : Zone) (name : Labels) (fed : List ℕ) (records : List Record) (source : SourceState FileKept) (lines : List ℕ)
+    → ((told : List Refused) (placed : List Placed) → IsRewriting origin octets generic told → FileStates (folded origin) generic placed ↔ FileStatesWithWords origin (folded origin) octets placed)
+    → ((placed : List Placed) → FileStates (folded origin) generic placed ↔ FileReads (folded origin) generic placed None)
+    → ((a b : List Placed) (e f : Ending) → FileReads (folded origin) generic a e → FileReads (folded origin) generic b f → (a ≡ b) × (e ≡ f))
+    → RewritesFile origin octets generic short → name ≡ folded origin → fed ≡ generic → records ≡ z.records
+    → source.held.finished ≡ true → first_of source.pending ≡ None → Finds name source fed records lines
+    → PresentationDenotes origin octets z → AreFirstLines origin octets z.records lines
+lines_of_all origin octets generic short z name fed records source lines rewriting states_read once rewrites named all same finished none it =
+    all_lines origin octets generic short z source lines rewriting states_read once rewrites finished none
+    (subst (λ n. Finds n source generic z.records lines) named (subst (λ os. Finds name source os z.records lines) all (subst (λ rs. Finds name source fed rs lines) same it)))
+
+-- nothing was read yet
+pub started : (name : Labels) (source : SourceState FileKept) (records : List Record) (lines : List ℕ) → StandsForFile name source [] [] → lines ≡ replicate (length records) 0 → Finds name source [] records lines
+started name source records lines stands zeros = record {
+  given = [];
+  stands = stands;
+  so_far = λ on. subst (EachSoFar [] records) (sym zeros) (none_so_far records);
+}
+
+-- a slice of a vector is written back
+pub written_back : (n : ℕ) (xs ys : List ℕ) → length xs ≡ n → take n (xs ++ drop (length xs) ys) ≡ xs
+written_back n xs ys long = subst (λ k. take k (xs ++ drop (length xs) ys) ≡ xs) long (take-append_seam xs (drop (length xs) ys))

@@ -6,11 +6,11 @@ use Rattle.zone_rdata.specs.declared.lent.RrRef.{RrRef}
 use Rattle.zone_set.proofs.Holding.Together.{each_Has}
 use Rattle.zone_set.proofs.Ordering.SetOrder.{canonical_total}
 use Rattle.zone_set.specs.Order.{Ascends, canonical_cmp}
-use Rattle.record_places.specs.SoFar.{records_in}
+use Rattle.record_places.specs.Machine.SoFar.{records_in}
 
 -- whether two classes differ
 pub other_class : (told : Bool) (own class : ℕ) → told ≡ not (own == class) → told ≡ true → own ≡ class → ⊥
-other_class told own class is yes = grind (arith, eq-eqb, ne_eqb)
+other_class told own class is other = grind (arith, eq-eqb, ne_eqb)
 
 pub read_at : (records : List RrRef) (i : ℕ) (held : RrRef) → i < length records → held ≡ get_or records i held → slice_get (records_in records) i ≡ Some (record_of held)
 read_at records i held within is = slice_get-map record_of records i ∙ ap (option_map record_of) (slice_get_read records (length records) i held refl within is)

@@ -1,2 +1,2 @@
 pub mod FirstLines
-pub mod SoFar
+pub mod Machine

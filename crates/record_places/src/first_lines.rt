@@ -6,7 +6,7 @@ ghost use Rattle.zone_rdata.specs.RrSource.{first_of};
 ghost use Rattle.zone_rdata.specs.declared.record.Placed.{Placed};
 ghost use Rattle.zone_files.specs.Presentation.{PresentationDenotes};
 ghost use Rattle.record_places.specs.FirstLines.{AreFirstLines};
-ghost use Rattle.record_places.specs.SoFar.{AreLinesSoFar, Finds};
+ghost use Rattle.record_places.specs.Machine.SoFar.{AreLinesSoFar, Finds};
 
 use crate::sorted_records::SortedRecords;
 use std::alloc::{AllocError, Global};
@@ -66,12 +66,10 @@ fn read(
 ) -> Result<(), AllocError>
     requires open { source.old.held.finished ≡ false }
     requires fits { source.old.held.fed + length octets.now + 1 < 2 ^ 64 }
-    requires sized { length lines.old ≡ length sorted.now }
     ensures finds { OnOk result ((origin : Labels) (fed : List ℕ)
         → Finds origin source.old fed sorted.now lines.old
         → Finds origin source.new (fed ++ octets.now) sorted.now lines.new) }
     ensures open { source.new.held.finished ≡ false }
-    ensures sized { length lines.new ≡ length lines.old }
 {
     let mut rest = octets;
     'pieces: while !rest.is_empty() {
@@ -87,12 +85,10 @@ fn read(
 
 /// Takes the records that a source has left to give.
 fn take(source: &mut TextSource, sorted: &SortedRecords<'_>, lines: &mut [u64])
-    requires { length lines.old ≡ length sorted.now }
     ensures finds { (origin : Labels) (fed : List ℕ)
         → Finds origin source.old fed sorted.now lines.old
         → Finds origin source.new fed sorted.now lines.new }
     ensures held { source.new.held ≡ source.old.held }
-    ensures sized { length lines.new ≡ length lines.old }
     ensures all { first_of source.new.pending ≡ None }
 {
     an_answer_is_given();
@@ -104,12 +100,10 @@ fn take(source: &mut TextSource, sorted: &SortedRecords<'_>, lines: &mut [u64])
 
 /// Keeps the line of a record that is stated next, if it wasn't stated before.
 fn note(sorted: &SortedRecords<'_>, lines: &mut [u64], placed: &PlacedRef<'_>)
-    requires { length lines.old ≡ length sorted.now }
-    ensures so_far { (given : List Placed)
+    ensures { (given : List Placed)
         → AreLinesSoFar given sorted.now lines.old
         → AreLinesSoFar (given ++ placed_of placed.now ∷ [])
         sorted.now lines.new }
-    ensures sized { length lines.new ≡ length lines.old }
 {
     let Some(index) = sorted.index_of(&placed.rr) else {
         return;
@@ -117,6 +111,9 @@ fn note(sorted: &SortedRecords<'_>, lines: &mut [u64], placed: &PlacedRef<'_>)
     let Place::Line(line) = placed.place else {
         return;
     };
+    if index >= lines.len() {
+        return;
+    }
     if lines[index] == 0 {
         lines[index] = line;
     }

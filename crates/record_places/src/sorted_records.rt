@@ -3,7 +3,7 @@ ghost use Rattle.std.specs.Prelude.{◌≡◌, Some, IfOk, IfSome, IsNone, lengt
 ghost use Rattle.zone_rdata.specs.Lent.{record_of};
 ghost use Rattle.zone_set.specs.Order.{Ascends};
 ghost use Rattle.zone_set.specs.Zone.{Has};
-ghost use Rattle.record_places.specs.SoFar.{AreSorted, records_in};
+ghost use Rattle.record_places.specs.Machine.SoFar.{AreSorted, records_in};
 
 use std::alloc::{AllocError, Global};
 use std::cmp::Ordering;
@@ -21,7 +21,7 @@ pub(crate) struct SortedRecords<'z> {
 impl<'z> Model for SortedRecords<'z> {
     ghost use Rattle.std.specs.Prelude.{List};
     ghost use Rattle.zone_rdata.specs.Record.{Record};
-    ghost use Rattle.record_places.specs.SoFar.{AreSorted, records_in};
+    ghost use Rattle.record_places.specs.Machine.SoFar.{AreSorted, records_in};
 
     ghost Value = { List Record };
 

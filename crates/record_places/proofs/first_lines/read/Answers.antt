@@ -4,7 +4,7 @@ use Rattle.record_places.proofs.Reading.{read_all, read_more, read_none}
 use Rattle.record_places.proofs.first_lines.read.Goals as goal
 
 pub pieces-init : goal.pieces-init
-pieces-init c = record { read = read_none c.args.source.now c.args.lines.now c.args.sorted.now c.args.octets.now; counted = refl; goes_on = c.requires.open; sized = refl }
+pieces-init c = record { read = read_none c.args.source.now c.args.lines.now c.args.sorted.now c.args.octets.now; counted = refl; goes_on = c.requires.open }
 
 pub pieces-preserved : goal.pieces-preserved
 pieces-preserved c =
@@ -16,5 +16,4 @@ pieces-preserved c =
           cut c.in-Ok.ensures.stands c.take.ensures.finds c.pieces.invariant.read;
       counted = omega (arith, ap (λ h. h.fed) c.take.ensures.held, c.in-Ok.ensures.feeds.count, ap length cut, length-append piece others, c.pieces.invariant.counted);
       goes_on = ap (λ h. h.finished) c.take.ensures.held ∙ c.in-Ok.ensures.feeds.goes_on;
-      sized = c.take.ensures.sized ∙ c.pieces.invariant.sized;
     }

@@ -8,7 +8,6 @@ invariant-pieces l = record {
   read : HasRead l.initial.source l.initial.lines l.source l.lines l.sorted l.octets l.rest;
   counted : l.source.held.fed + length l.rest ≡ l.initial.source.held.fed + length l.octets;
   goes_on : l.source.held.finished ≡ false;
-  sized : length l.lines ≡ length l.initial.lines;
 }
 
 abbrev pub decreases-pieces : goal.decreases-pieces

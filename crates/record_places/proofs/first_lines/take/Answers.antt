@@ -11,7 +11,6 @@ records-preserved c =
       finds = λ origin fed was. found_more origin c.records.source c.skip.new.self p fed c.args.sorted.now c.records.lines c.note.new.lines
           (λ given. c.an_answer_is_given.ensures.some origin c.records.source c.skip.new.self p fed given)
           (ap (option_map placed_of) (sym c.in-Some.is) ∙ c.first.ensures) c.skip.ensures.left c.skip.ensures.beside
-          c.note.ensures.so_far (c.records.invariant.finds origin fed was);
+          c.note.ensures (c.records.invariant.finds origin fed was);
       held = c.skip.ensures.beside ∙ c.records.invariant.held;
-      sized = c.note.ensures.sized ∙ c.records.invariant.sized;
     }

@@ -1,6 +1,6 @@
 use Rattle.std.proofs.Common.{◌-◌, ◌≤◌, length}
 use Rattle.zone_rdata.specs.Lent.{record_of}
-use Rattle.record_places.specs.SoFar.{records_in}
+use Rattle.record_places.specs.Machine.SoFar.{records_in}
 use Rattle.record_places.proofs.Sought.{IsBetween}
 use Rattle.record_places.proofs.sorted_records.index_among.Given as goal
 

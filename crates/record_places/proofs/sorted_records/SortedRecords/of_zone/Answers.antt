@@ -3,7 +3,7 @@ use Rattle.std.proofs.lemmas.Grind.{common_steps}
 use Rattle.std.specs.List.{AllByRecursion}
 use Rattle.zone_rdata.specs.Record.{Record}
 use Rattle.zone_set.specs.Order.{Ascends}
-use Rattle.record_places.specs.SoFar.{records_in}
+use Rattle.record_places.specs.Machine.SoFar.{records_in}
 use Rattle.record_places.proofs.sorted_records.SortedRecords.of_zone.Goals as goal
 
 pub invariant_of-result : goal.invariant_of-result

@@ -1,5 +1,5 @@
 use Rattle.std.proofs.Common.{◌≡◌, ◌++◌}
-use Rattle.record_places.specs.SoFar.{records_in}
+use Rattle.record_places.specs.Machine.SoFar.{records_in}
 use Rattle.record_places.proofs.sorted_records.SortedRecords.of_zone.Given as goal
 
 -- those that were taken and those to come
