@@ -1,5 +1,5 @@
 -- The lines of records, as the records of a file are read one after another.
-use Rattle.zone_set.proofs.Common.{◌≡◌, ◌≢◌, ℕ, suc, zero, ◌+◌, ◌<◌, ◌≤◌, ◌↔◌, Equal, Less, List, [], ◌∷◌, ◌++◌, None, Option, Some, refl, sym, ap, ◌∙◌, subst, inl, inr, ⊎_elim, append_assoc, append-nil, arith, length, get_or, AllByRecursion, AllByRecursion-back, AllByRecursion-front, tied_itself, Has, Placed, Place, Record, records_of, SameRecords}
+use Rattle.zone_set.proofs.Common.{◌≡◌, ℕ, suc, zero, ◌+◌, ◌<◌, Equal, Less, List, [], ◌∷◌, ◌++◌, Some, refl, sym, ap, ◌∙◌, subst, inl, inr, ⊎_elim, append_assoc, arith, length, get_or, AllByRecursion-back, AllByRecursion-front, tied_itself, Has, Placed, Place, Record, records_of}
 use Rattle.std.proofs.Math.ListN.{set}
 use Rattle.std.specs.List.{slice_get}
 use Rattle.std.specs.Prelude.{count_by, replicate, ◌==◌}
@@ -10,7 +10,7 @@ use Rattle.zone_set.proofs.Holding.Together.{each_Has}
 use Rattle.zone_set.proofs.Ordering.SetOrder.{canonical_total}
 use Rattle.zone_set.specs.Order.{Ascends, canonical_cmp}
 use Rattle.zone_text.specs.Entries.{Entry, entry_of, numbered}
-use Rattle.zone_text.specs.File.{EntriesState, FileStates, StatesFirst, states_none, states_one}
+use Rattle.zone_text.specs.File.{EntriesState, FileStates, states_none, states_one}
 use Rattle.zone_text.specs.Tokens.{Token, text}
 use Rattle.record_places.proofs.Sought.{has_at}
 use Rattle.record_places.specs.FirstLines.{EachFirstOn, IsFirstOn}

@@ -1,5 +1,5 @@
 -- What a source gives, record by record, and the lines of records as far as it was read.
-use Rattle.std.proofs.Common.{◌≡◌, ℕ, List, [], ◌∷◌, ◌++◌, Ok, Option, Some, None, append-nil, append_assoc, refl, sym, ap, ◌∙◌, subst}
+use Rattle.std.proofs.Common.{◌≡◌, ℕ, List, [], ◌∷◌, ◌++◌, Ok, Some, None, append-nil, append_assoc, refl, sym, ap, ◌∙◌, subst}
 use Rattle.std.specs.Prelude.{◌↔◌, false, replicate, true}
 use Rattle.std.proofs.Common.{arith, drop, length, take}
 use Rattle.std.proofs.Math.Seq.{take-append_seam}

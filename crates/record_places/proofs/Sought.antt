@@ -1,5 +1,5 @@
 -- A record is looked up among records in canonical order.
-use Rattle.zone_set.proofs.Common.{◌≡◌, ◌≢◌, ℕ, suc, zero, ◌+◌, ◌<◌, ◌≤◌, ◌⊎◌, ◌==◌, Bool, Equal, Greater, Less, List, [], ◌∷◌, None, Option, Some, refl, sym, ap, ◌∙◌, subst, inl, inr, ⊎_elim, arith, eq-eqb, get_or, length, ne_eqb, not, option_map, record_of, true, AllByRecursion, ordering_reverse, tied_itself, Has, Record}
+use Rattle.zone_set.proofs.Common.{◌≡◌, ℕ, suc, zero, ◌+◌, ◌<◌, ◌≤◌, ◌⊎◌, ◌==◌, Bool, Equal, Greater, Less, List, [], ◌∷◌, Some, refl, sym, ap, ◌∙◌, subst, inl, inr, ⊎_elim, arith, eq-eqb, get_or, length, ne_eqb, not, option_map, record_of, true, ordering_reverse, tied_itself, Has, Record}
 use Rattle.std.proofs.lemmas.Option.{slice_get-map, slice_get_read}
 use Rattle.std.specs.List.{slice_get}
 use Rattle.zone_rdata.specs.declared.lent.RrRef.{RrRef}

@@ -1,6 +1,6 @@
-use Rattle.std.proofs.Common.{◌≡◌, ◌∷◌, ◌++◌, [], arith, get_or, refl, subst}
+use Rattle.std.proofs.Common.{◌∷◌, ◌++◌, [], arith, get_or, refl, subst}
 use Rattle.std.proofs.lemmas.List.{set-get_or}
-use Rattle.zone_rdata.specs.Lent.{placed_of, record_of}
+use Rattle.zone_rdata.specs.Lent.{placed_of}
 use Rattle.record_places.specs.Machine.SoFar.{EachSoFar}
 use Rattle.record_places.proofs.Lines.{given_on_lines, last_line, last_on_line, line_at, line_found, line_kept, line_put, others_kept}
 use Rattle.record_places.proofs.first_lines.note.Goals as goal

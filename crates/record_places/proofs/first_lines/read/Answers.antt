@@ -1,6 +1,5 @@
-use Rattle.std.proofs.Common.{◌≡◌, ◌+◌, ◌++◌, ap, arith, length, length-append, refl, subst, sym, take-append-drop, ◌∙◌}
-use Rattle.std.specs.Prelude.{List, ℕ}
-use Rattle.record_places.proofs.Reading.{read_all, read_more, read_none}
+use Rattle.std.proofs.Common.{◌≡◌, ◌++◌, ap, arith, length, length-append, refl, sym, take-append-drop, ◌∙◌}
+use Rattle.record_places.proofs.Reading.{read_more, read_none}
 use Rattle.record_places.proofs.first_lines.read.Goals as goal
 
 pub pieces-init : goal.pieces-init

@@ -1,5 +1,5 @@
 use Rattle.std.proofs.Common.{◌≡◌, ◌∙◌, [], ap, arith, length, subst, sym, true}
-use Rattle.std.specs.Prelude.{List, replicate, ℕ}
+use Rattle.std.specs.Prelude.{replicate}
 use Rattle.zone_name.specs.Name.{folded}
 use Rattle.record_places.specs.FirstLines.{AreFirstLines}
 use Rattle.record_places.specs.Machine.SoFar.{Finds}

@@ -1,6 +1,5 @@
-use Rattle.std.proofs.Common.{◌≡◌, ◌+◌, ◌-◌, ◌/◌, ◌<◌, Some, ap, arith, false, length, slice_get, sym, true, ◌∙◌}
+use Rattle.std.proofs.Common.{◌≡◌, ◌+◌, ◌-◌, ◌/◌, ◌<◌, Some, ap, arith, false, length, sym, true, ◌∙◌}
 use Rattle.zone_rdata.specs.Lent.{record_of}
-use Rattle.zone_set.specs.Order.{canonical_cmp}
 use Rattle.zone_set.proofs.Holding.Together.{each_Has}
 use Rattle.record_places.specs.Machine.SoFar.{records_in}
 use Rattle.record_places.proofs.Sought.{has_at, is_above, is_below, is_none, only_one, read_at}
