@@ -12,3 +12,4 @@ mod Heads
 mod Fitting
 mod CanonicalLines
 mod Origins
+mod OneText
