@@ -1,0 +1,179 @@
+"""The examples on which definitions are run: files of lines, each with what an RFC or another program says."""
+from collections.abc import Callable, Iterator
+from dataclasses import dataclass
+from pathlib import Path
+
+from machine import Machine, labels_of, raw_items, record, text, touching_items, zone
+from values import Fields, Made, Refused, Value, octets_of
+
+FOLDER = Path(__file__).resolve().parent / "examples"
+DATA, PRINTED, TABLE = "type_data.specs.Data", "type_data.specs.PrintedData", "type_data.specs.Table"
+DIGEST, VERDICT = "zone_digest.specs.Digest", "zone_digest.specs.Verdict"
+ALGORITHMS = {"1": "Sha384", "2": "Sha512"}
+
+
+@dataclass
+class Example:
+    """What is said, by whom, and whether definitions say the same."""
+
+    name: str
+    crates: tuple[str, ...]
+    agrees: Callable[[Machine], bool]
+
+
+def lines_of(file: str) -> list[str]:
+    return [line for line in (FOLDER / file).read_text().splitlines() if line and not line.startswith("#")]
+
+
+def altered(octets: bytes) -> bytes:
+    return octets[:-1] + bytes([octets[-1] ^ 1])
+
+
+# ---- further types
+
+def row_of(machine: Machine, mnemonic: str) -> Fields:
+    rows = machine.rows(f"{TABLE}.further_types")
+    found = [row for row in rows if octets_of(row.parts["mnemonic"]) == mnemonic.encode()]
+    if len(found) != 1:
+        raise Refused(f"{len(found)} rows of {mnemonic}")
+    return found[0]
+
+
+def read(machine: Machine, row: Fields, items: str, octets: bytes, fits: bool) -> bool:
+    """The items state these octets, and no others: all that they state is found, or others are tried."""
+    fields, given = row.parts["fields"], touching_items(items)
+    front = [labels_of("."), machine.of(f"{TABLE}.fields_in", fields, given), machine.of(f"{DATA}.in_order", fields), given]
+    if fits:
+        return machine.holds(f"{DATA}.StatesData", *front, text(octets)) \
+            and not machine.holds(f"{DATA}.StatesData", *front, text(altered(octets)))
+    return [octets_of(value) for value in machine.found(f"{DATA}.StatesData", *front)] == [octets]
+
+
+def printed(machine: Machine, row: Fields, items: str, octets: bytes) -> bool:
+    given = [row.parts["fields"], touching_items(items)]
+    return machine.holds(f"{PRINTED}.PrintsData", *given, text(octets)) \
+        and not machine.holds(f"{PRINTED}.PrintsData", *given, text(altered(octets)))
+
+
+def further_types() -> Iterator[Example]:
+    for line in lines_of("types.txt"):
+        kind, section, items, stated, shown = [part.strip() for part in line.split(" | ")]
+        mnemonic, number, classes = kind.split(" ")
+        fits, octets = stated.startswith("fits "), bytes.fromhex(stated.removeprefix("fits "))
+        name = f"{mnemonic} {items} ({section})"
+
+        def row(machine: Machine, of: tuple[str, str, str] = (mnemonic, number, classes)) -> Fields:
+            found = row_of(machine, of[0])
+            if found.parts["number"] != int(of[1]) or (found.parts["in_internet_alone"] == Made("true")) != (of[2] == "IN"):
+                raise Refused(f"another number or class of {of[0]}")
+            return found
+        yield Example(f"what is stated by {name}", ("type_data", "zone_rdata", "zone_name"),
+                      lambda m, r=row, i=items, o=octets, f=fits: read(m, r(m), i, o, f))
+        if shown != "-":
+            text_shown = items if shown == "=" else shown
+            yield Example(f"what is printed for {name}", ("type_data", "zone_rdata", "zone_name"),
+                          lambda m, r=row, i=text_shown, o=octets: printed(m, r(m), i, o))
+
+
+# ---- records
+
+def canonical(machine: Machine, kind: int, octets: bytes) -> Value:
+    """The octets that a zone keeps for those of a message."""
+    laid = machine.of("zone_rdata.specs.Layout.layout", 1, kind)
+    found = machine.found("zone_rdata.specs.Spelling.IsCanonicalOf", laid, text(octets))
+    if len(found) != 1:
+        raise Refused(f"{len(found)} canonical forms of data of type {kind}")
+    return found[0]
+
+
+def stated_data(machine: Machine, kind: int, items: str, octets: bytes) -> bool:
+    origin = labels_of("example.")
+    kept = octets_of(canonical(machine, kind, octets))
+    found = machine.found("zone_rdata.specs.Spelling.States", origin, 1, kind, raw_items(items))
+    return [octets_of(value) for value in found] == [kept]
+
+
+def line_of(machine: Machine, owner: str, ttl: int, kind: int, octets: bytes) -> str:
+    made = record(owner, ttl, kind, canonical(machine, kind, octets))
+    return machine.octets("zone_print.specs.Canonical.line", made).decode().removesuffix("\n")
+
+
+def records() -> Iterator[Example]:
+    for line in lines_of("records.txt"):
+        section, kind, items, stated, shown = [part.strip() for part in line.split(" | ")]
+        octets = bytes.fromhex(stated)
+        owner, ttl = shown.split(" ")[:2]
+        if items != "-":
+            yield Example(f"what is stated by {items} ({section})", ("zone_rdata", "zone_name"),
+                          lambda m, k=int(kind), i=items, o=octets: stated_data(m, k, i, o))
+        yield Example(f"the line {shown} ({section})", ("zone_print", "zone_rdata", "zone_name"),
+                      lambda m, w=owner, t=int(ttl), k=int(kind), o=octets, s=shown: line_of(m, w, t, k, o) == s)
+
+
+def order() -> Iterator[Example]:
+    """Names in the order of RFC 4034 6.1, each before all that follow it."""
+    names = lines_of("order.txt")
+    for before, after in zip(names, names[1:]):
+        yield Example(f"{before} is before {after} (RFC 4034 6.1)", ("zone_name",), lambda m, b=before, a=after: is_before(m, b, a))
+
+
+def is_before(machine: Machine, before: str, after: str) -> bool:
+    a, b = [machine.of("zone_name.specs.Name.folded", labels_of(name)) for name in (before, after)]
+    return bool(machine.of("zone_name.specs.Order.name_cmp", a, b) == Made("Less")) \
+        and bool(machine.of("zone_name.specs.Order.name_cmp", b, a) == Made("Greater"))
+
+
+# ---- digests
+
+@dataclass
+class Digested:
+    """A zone with what is said of it."""
+
+    name: str
+    records: list[tuple[str, int, int, bytes]]
+    said: list[list[str]]
+
+    def made(self, machine: Machine) -> Value:
+        kept = [record(owner, ttl, kind, canonical(machine, kind, octets)) for owner, ttl, kind, octets in self.records]
+        return zone("example.", kept)
+
+
+def digested_zones() -> list[Digested]:
+    zones: list[Digested] = []
+    for line in lines_of("digests.txt"):
+        words = line.split(" ")
+        if words[0] == "zone":
+            zones.append(Digested(line.removeprefix("zone "), [], []))
+        elif words[0].endswith("."):
+            octets = b"" if words[3] == "-" else bytes.fromhex(words[3])
+            zones[-1].records.append((words[0], int(words[1]), int(words[2]), octets))
+        else:
+            zones[-1].said.append(words)
+    return zones
+
+
+def agrees(machine: Machine, of: Digested, words: list[str]) -> bool:
+    made = of.made(machine)
+    if words[0] == "digest":
+        algorithm = Made(f"zone_digest.specs.declared.algorithm.Algorithm.{ALGORITHMS[words[1]]}")
+        found = machine.found(f"{DIGEST}.IsDigest", made, algorithm)
+        return [octets_of(value.parts[0]) for value in found] == [bytes.fromhex(words[2])]
+    zonemd = [r for r in machine_records(made) if r.parts["kind"] == 63]
+    verdicts = machine.found(f"{VERDICT}.IsVerdictOn", made, zonemd[int(words[2]) if len(words) > 2 else 0])
+    return [value.name.rsplit(".", 1)[1] for value in verdicts] == [words[1]]
+
+
+def machine_records(made: Value) -> list[Value]:
+    from values import front_of
+    return front_of(made.parts["records"])[0]
+
+
+def digests() -> Iterator[Example]:
+    for of in digested_zones():
+        for words in of.said:
+            yield Example(f"{words[0]} {words[1]} of {of.name}", ("zone_digest", "data_names", "zone_rdata", "zone_name"),
+                          lambda m, z=of, w=words: agrees(m, z, w))
+
+
+def every() -> list[Example]:
+    return [*order(), *records(), *further_types(), *digests()]
