@@ -2,10 +2,8 @@
 import base64
 import hashlib
 from collections.abc import Callable
-from pathlib import Path
-from typing import Any, cast
+from typing import Any
 
-import definitions
 from values import CONS, NIL, Fails, Goal, Made, Refused, Stuck, Unknown, Value, bind, front_of, is_nil, list_of, octets_of, same, shown
 
 PRELUDE = """
@@ -37,6 +35,8 @@ slice_get (x ∷ xs) zero = Some x
 slice_get (x ∷ xs) (suc n) = slice_get xs n
 option_map f None = None
 option_map f (Some x) = Some (f x)
+is_some None = false
+is_some (Some x) = true
 keep_some None xs = xs
 keep_some (Some x) xs = x ∷ xs
 filter_map f [] = []
@@ -99,11 +99,11 @@ IsTrue b = b ≡ true
 """
 NAMES: dict[str, Any] = {}
 ARITY: dict[Any, int] = {}
-ALIKE = {"◌++?◌": "both_some", "++?": "both_some"}
+ALIKE = {"++?": "both_some"}
 
 
-def prelude() -> definitions.File:
-    """The file of the words above."""
+def prelude() -> str:
+    """The words above, as a file has them."""
     text, seen = "", ""
     for line in PRELUDE.splitlines():
         name = line.split(" ")[0]
@@ -111,15 +111,7 @@ def prelude() -> definitions.File:
             text += f"{name} : ⊤\n"
             seen = name
         text += line + "\n"
-    return definitions.File(cast(Path, _Text(text)))
-
-
-class _Text:
-    def __init__(self, text: str) -> None:
-        self.text = text
-
-    def read_text(self) -> str:
-        return self.text
+    return text
 
 
 def word(name: str, arity: int) -> Callable[[Callable[..., Value]], Callable[..., Value]]:

@@ -4,7 +4,8 @@ from dataclasses import dataclass
 from pathlib import Path
 
 from machine import Machine, labels_of, raw_items, record, text, touching_items, zone
-from values import Fields, Made, Refused, Value, octets_of
+from solver import settled
+from values import Fields, Made, Refused, Value, front_of, octets_of
 
 FOLDER = Path(__file__).resolve().parent / "examples"
 DATA, PRINTED, TABLE = "type_data.specs.Data", "type_data.specs.PrintedData", "type_data.specs.Table"
@@ -158,14 +159,9 @@ def agrees(machine: Machine, of: Digested, words: list[str]) -> bool:
         algorithm = Made(f"zone_digest.specs.declared.algorithm.Algorithm.{ALGORITHMS[words[1]]}")
         found = machine.found(f"{DIGEST}.IsDigest", made, algorithm)
         return [octets_of(value.parts[0]) for value in found] == [bytes.fromhex(words[2])]
-    zonemd = [r for r in machine_records(made) if r.parts["kind"] == 63]
+    zonemd = [r for r in front_of(made.parts["records"])[0] if r.parts["kind"] == 63]
     verdicts = machine.found(f"{VERDICT}.IsVerdictOn", made, zonemd[int(words[2]) if len(words) > 2 else 0])
     return [value.name.rsplit(".", 1)[1] for value in verdicts] == [words[1]]
-
-
-def machine_records(made: Value) -> list[Value]:
-    from values import front_of
-    return front_of(made.parts["records"])[0]
 
 
 def digests() -> Iterator[Example]:
@@ -175,5 +171,28 @@ def digests() -> Iterator[Example]:
                           lambda m, z=of, w=words: agrees(m, z, w))
 
 
+# ---- $GENERATE
+
+GENERATE = "zone_generate.specs"
+
+
+def generated(machine: Machine, items: str) -> str:
+    """The lines that an entry stands for, or its fault."""
+    machine.begin()
+    answer = settled(machine.of(f"{GENERATE}.Entry.generation_in", raw_items(items)))
+    if answer.name == "Err":
+        return str(answer.parts[0].name.rsplit(".", 1)[1])
+    made = answer.parts[0].parts
+    lines = [settled(machine.of(f"{GENERATE}.Lines.line_of", made["templates"], value)) for value in front_of(made["values"])[0]]
+    said = [octets_of(line.parts[0]) if line.name == "Some" else None for line in lines]
+    return " ; ".join("nothing" if line is None else line.decode().removesuffix("\n") for line in said)
+
+
+def generations() -> Iterator[Example]:
+    for line in lines_of("generate.txt"):
+        items, wanted = line.split(" | ")
+        yield Example(f"$GENERATE {items}", ("zone_generate",), lambda m, i=items, w=wanted: generated(m, i) == w)
+
+
 def every() -> list[Example]:
-    return [*order(), *records(), *further_types(), *digests()]
+    return [*order(), *records(), *further_types(), *digests(), *generations()]

@@ -3,7 +3,7 @@ import re
 from dataclasses import dataclass, field
 from functools import cache
 from pathlib import Path
-from typing import Any
+from typing import Any, cast
 
 import definitions
 from syntax import Shape, Tree, Unreadable, items_of, read_definition
@@ -93,14 +93,35 @@ class Scope:
             return False
 
 
+class Text:
+    """A text in place of a file."""
+
+    def __init__(self, text: str) -> None:
+        self.text = text
+
+    def read_text(self) -> str:
+        return self.text
+
+
+READ: dict[str, definitions.File] = {}
+
+
+def known_files() -> dict[str, definitions.File]:
+    """The files of all crates, which are read once."""
+    if not READ:
+        READ.update(definitions.read())
+    return dict(READ)
+
+
 class Program:
     """All definitions, with words of std in `builtin`."""
 
     def __init__(self, changed: dict[str, str] | None = None) -> None:
-        self.files = definitions.read()
+        self.files = known_files()
         self.scopes: dict[str, Scope] = {}
         self.known: dict[tuple[str, str], Definition] = {}
-        self.changed = changed or {}
+        for module, text in (changed or {}).items():
+            self.files[module] = definitions.File(cast(Path, Text(text)))
 
     def scope(self, module: str) -> Scope:
         if module not in self.scopes:
@@ -140,6 +161,7 @@ class Program:
     def plain(self, name: str) -> Any:
         """A word of std, which `builtin` has."""
         import builtin
+        name = builtin.ALIKE.get(name, name)
         if name in PLAIN:
             return Constructor(name, PLAIN[name][1], PLAIN[name][0])
         if name in builtin.NAMES:
@@ -152,7 +174,7 @@ class Program:
     @cache
     def prelude(self) -> Scope:
         import builtin
-        self.files["prelude"] = builtin.prelude()
+        self.files["prelude"] = definitions.File(cast(Path, Text(builtin.prelude())))
         return self.scope("prelude")
 
     # ---- types that the code declares

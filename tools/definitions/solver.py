@@ -339,11 +339,11 @@ class Solver:
             others = [g for g in goals if g is not chosen]
             if len(ways) > 1:
                 break
-            goals = [*ways[0](), *others]
+            goals = [*others, *ways[0]()]
         mark = len(TRAIL)
         for way in ways:
             try:
-                yield from self.search([*way(), *others])
+                yield from self.search([*others, *way()])
             except Fails:
                 self.owed()
             take_back(mark)
