@@ -10,14 +10,14 @@ from values import (CONS, TRAIL, Fails, Goal, Later, Made, Refused, Stuck, Unkno
 
 DATA = {"List", "ℕ", "Bool", "Option", "Result", "Ordering", "Width", "declared", "Type"}
 LATE = {"all", "implies", "equally"}
-MOST_STEPS = 100_000
+MOST_STEPS, FEW_STEPS = 100_000, 200
 Way = Callable[[], list[Goal]]
 
 
 class Solver:
     def __init__(self, program: Program) -> None:
         self.eval = Evaluator(program)
-        self.steps = 0
+        self.steps, self.most = 0, MOST_STEPS
 
     # ---- kinds of things
 
@@ -35,7 +35,7 @@ class Solver:
     def step(self, goal: Goal) -> list[Goal] | None:
         """What is left to be shown of a proposition; nothing where it has to wait for something unknown."""
         self.steps += 1
-        if self.steps > MOST_STEPS:
+        if self.steps > self.most:
             raise Refused(f"{goal.where or goal.kind}: too many steps")
         kind = goal.kind
         if kind == "true":
@@ -369,7 +369,8 @@ class Solver:
 
     def goes(self, way: Way) -> bool:
         """Whether a way doesn't fail at once."""
-        mark = len(TRAIL)
+        mark, most = len(TRAIL), self.most
+        self.most = min(most, self.steps + FEW_STEPS)
         try:
             self.settle(way())
             return True
@@ -378,6 +379,7 @@ class Solver:
         except Refused:
             return True
         finally:
+            self.most = most
             self.owed()
             take_back(mark)
 
