@@ -1,11 +1,14 @@
 """Evaluates expressions of definitions: functions by their clauses, and propositions up to what they are made of."""
 from collections.abc import Callable, Sequence
+from functools import partial
 from typing import Any
 
 import builtin
+import numerals
 from program import Constructor, Definition, Program, Scope
 from syntax import Tree
-from values import CONS, NIL, Fails, Fields, Function, Goal, Later, Made, Refused, Stuck, Unknown, Value, bind, list_of, names_in, shown
+from values import (CONS, Fields, Function, Goal, Later, Made, Refused, Stuck, Unknown, Value, bind, list_of, names_in,
+                    shown)
 
 NOTHING: dict[str, Value] = {}
 # operators whose sides are propositions, which are looked at only as far as is needed
@@ -122,7 +125,7 @@ class Evaluator:
                 return Function(lambda *given: Goal("of", (found, *given), found.whole), wants) if wants else Goal("of", (found,))
             return Function(lambda *given: self.call(found, given), wants) if wants else self.constant(found)
         if isinstance(found, Constructor) and found.name in ("zero", "suc"):
-            return 0 if found.name == "zero" else Function(lambda n: builtin.suc(self, n), 1)
+            return 0 if found.name == "zero" else Function(lambda n: numerals.suc(self, n), 1)
         if isinstance(found, Constructor):
             return Function(lambda *given: Made(found.name, given), found.arity) if found.arity else Made(found.name)
         if isinstance(found, Goal):
@@ -176,11 +179,11 @@ class Evaluator:
 
     def constructors(self, unknown: Unknown, family: str) -> list[Callable[[], None]]:
         """The ways to know which constructor a value has."""
-        ways = []
-        for constructor in self.program.family(family):
-            kinds = self.kinds_of(unknown, constructor)
-            ways.append(lambda c=constructor, k=kinds: bind(unknown, self.opened(c, k)))
-        return ways
+        return [partial(self.construct, unknown, constructor) for constructor in self.program.family(family)]
+
+    def construct(self, unknown: Unknown, c: Constructor) -> None:
+        kinds = self.kinds_of(unknown, c)
+        bind(unknown, 0 if c.name == "zero" else Made(c.name, tuple(Unknown(kind) for kind in kinds)))
 
     def kinds_of(self, unknown: Unknown, c: Constructor) -> list[Value]:
         kind = shown(unknown.kind)
@@ -190,9 +193,6 @@ class Evaluator:
         if c.types:
             return [self.value(t, NOTHING, c.scope) for t in c.types]
         return [None] * c.arity
-
-    def opened(self, c: Constructor, kinds: Sequence[Value]) -> Value:
-        return 0 if c.name == "zero" else Made(c.name, tuple(Unknown(kind) for kind in kinds))
 
     def fits(self, pattern: Tree, value: Value, names: dict[str, Value], scope: Scope) -> Any:
         """Whether a value fits a pattern, whose names it gets; or what isn't known of it, and of which family it has to be."""
@@ -242,6 +242,3 @@ class Evaluator:
     def now(self, value: Value) -> Value:
         """The value of what was put off."""
         return self.value(value.tree, value.names, value.scope) if isinstance(value, Later) else value
-
-
-__all__ = ["Evaluator", "Fails", "NIL"]

@@ -1,11 +1,12 @@
 """The examples on which definitions are run: files of lines, each with what an RFC or another program says."""
 from collections.abc import Callable, Iterator
 from dataclasses import dataclass
+from functools import partial
 from pathlib import Path
 
-from machine import Machine, labels_of, raw_items, record, text, touching_items, zone
-from solver import settled
-from values import Fields, Made, Value, front_of, octets_of
+from machine import Machine, labels_of, raw_items, record, text, touching_items, truth, zone
+from steps import settled
+from values import Made, Value, front_of, octets_of
 
 FOLDER = Path(__file__).resolve().parent / "examples"
 DATA, PRINTED, TABLE = "type_data.specs.Data", "type_data.specs.PrintedData", "type_data.specs.Table"
@@ -19,10 +20,9 @@ class Differs(Exception):
 
 @dataclass
 class Example:
-    """What is said, by whom, and whether definitions say the same."""
+    """What is said, and whether definitions say the same."""
 
     name: str
-    crates: tuple[str, ...]
     said: Callable[[Machine], bool]
 
     def agrees(self, machine: Machine) -> bool:
@@ -42,17 +42,27 @@ def altered(octets: bytes) -> bytes:
 
 # ---- further types
 
-def row_of(machine: Machine, mnemonic: str) -> Fields:
-    rows = machine.rows(f"{TABLE}.further_types")
-    found = [row for row in rows if octets_of(row.parts["mnemonic"]) == mnemonic.encode()]
-    if len(found) != 1:
-        raise Differs(f"{len(found)} rows of {mnemonic}")
-    return found[0]
+@dataclass
+class Row:
+    """What the registry says of a type: its mnemonic, its number, and whether it is one of class IN alone."""
+
+    mnemonic: str
+    number: int
+    in_internet: bool
+
+    def fields(self, machine: Machine) -> Value:
+        """The fields that the table of types has for it."""
+        rows = [row.parts for row in machine.rows(f"{TABLE}.further_types")]
+        found = [row for row in rows if octets_of(row["mnemonic"]) == self.mnemonic.encode()]
+        wanted = (self.number, truth(self.in_internet))
+        if [(row["number"], row["in_internet_alone"]) for row in found] != [wanted]:
+            raise Differs(f"another row of {self.mnemonic}")
+        return found[0]["fields"]
 
 
-def read(machine: Machine, row: Fields, items: str, octets: bytes, fits: bool) -> bool:
+def read(row: Row, items: str, octets: bytes, fits: bool, machine: Machine) -> bool:
     """The items state these octets, and no others: all that they state is found, or others are tried."""
-    fields, given = row.parts["fields"], touching_items(items)
+    fields, given = row.fields(machine), touching_items(items)
     front = [labels_of("."), machine.of(f"{TABLE}.fields_in", fields, given), machine.of(f"{DATA}.in_order", fields), given]
     if fits:
         return machine.holds(f"{DATA}.StatesData", *front, text(octets)) \
@@ -60,8 +70,8 @@ def read(machine: Machine, row: Fields, items: str, octets: bytes, fits: bool) -
     return [octets_of(value) for value in machine.found(f"{DATA}.StatesData", *front)] == [octets]
 
 
-def printed(machine: Machine, row: Fields, items: str, octets: bytes) -> bool:
-    given = [row.parts["fields"], touching_items(items)]
+def printed(row: Row, items: str, octets: bytes, machine: Machine) -> bool:
+    given = [row.fields(machine), touching_items(items)]
     return machine.holds(f"{PRINTED}.PrintsData", *given, text(octets)) \
         and not machine.holds(f"{PRINTED}.PrintsData", *given, text(altered(octets)))
 
@@ -73,17 +83,10 @@ def further_types() -> Iterator[Example]:
         fits, octets = stated.startswith("fits "), bytes.fromhex(stated.removeprefix("fits "))
         name = f"{mnemonic} {items} ({section})"
 
-        def row(machine: Machine, of: tuple[str, str, str] = (mnemonic, number, classes)) -> Fields:
-            found = row_of(machine, of[0])
-            if found.parts["number"] != int(of[1]) or (found.parts["in_internet_alone"] == Made("true")) != (of[2] == "IN"):
-                raise Differs(f"another number or class of {of[0]}")
-            return found
-        yield Example(f"what is stated by {name}", ("type_data", "zone_rdata", "zone_name"),
-                      lambda m, r=row, i=items, o=octets, f=fits: read(m, r(m), i, o, f))
+        row = Row(mnemonic, int(number), classes == "IN")
+        yield Example(f"what is stated by {name}", partial(read, row, items, octets, fits))
         if shown != "-":
-            text_shown = items if shown == "=" else shown
-            yield Example(f"what is printed for {name}", ("type_data", "zone_rdata", "zone_name"),
-                          lambda m, r=row, i=text_shown, o=octets: printed(m, r(m), i, o))
+            yield Example(f"what is printed for {name}", partial(printed, row, items if shown == "=" else shown, octets))
 
 
 # ---- records
@@ -97,38 +100,36 @@ def canonical(machine: Machine, kind: int, octets: bytes) -> Value:
     return found[0]
 
 
-def stated_data(machine: Machine, kind: int, items: str, octets: bytes) -> bool:
+def stated_data(kind: int, items: str, octets: bytes, machine: Machine) -> bool:
     origin = labels_of("example.")
     kept = octets_of(canonical(machine, kind, octets))
     found = machine.found("zone_rdata.specs.Spelling.States", origin, 1, kind, raw_items(items))
     return [octets_of(value) for value in found] == [kept]
 
 
-def line_of(machine: Machine, owner: str, ttl: int, kind: int, octets: bytes) -> str:
-    made = record(owner, ttl, kind, canonical(machine, kind, octets))
-    return machine.octets("zone_print.specs.Canonical.line", made).decode().removesuffix("\n")
+def has_line(line: str, kind: int, octets: bytes, machine: Machine) -> bool:
+    """The line is that of a record of this data, whose owner and TTL it has at its beginning."""
+    owner, ttl = line.split(" ")[:2]
+    made = record(owner, int(ttl), kind, canonical(machine, kind, octets))
+    return machine.octets("zone_print.specs.Canonical.line", made).decode() == line + "\n"
 
 
 def records() -> Iterator[Example]:
     for line in lines_of("records.txt"):
         section, kind, items, stated, shown = [part.strip() for part in line.split(" | ")]
         octets = bytes.fromhex(stated)
-        owner, ttl = shown.split(" ")[:2]
-        if items != "-":
-            yield Example(f"what is stated by {items} ({section})", ("zone_rdata", "zone_name"),
-                          lambda m, k=int(kind), i=items, o=octets: stated_data(m, k, i, o))
-        yield Example(f"the line {shown} ({section})", ("zone_print", "zone_rdata", "zone_name"),
-                      lambda m, w=owner, t=int(ttl), k=int(kind), o=octets, s=shown: line_of(m, w, t, k, o) == s)
+        yield Example(f"what is stated by {items} ({section})", partial(stated_data, int(kind), items, octets))
+        yield Example(f"the line {shown} ({section})", partial(has_line, shown, int(kind), octets))
 
 
 def order() -> Iterator[Example]:
     """Names in the order of RFC 4034 6.1, each before all that follow it."""
     names = lines_of("order.txt")
     for before, after in zip(names, names[1:]):
-        yield Example(f"{before} is before {after} (RFC 4034 6.1)", ("zone_name",), lambda m, b=before, a=after: is_before(m, b, a))
+        yield Example(f"{before} is before {after} (RFC 4034 6.1)", partial(is_before, before, after))
 
 
-def is_before(machine: Machine, before: str, after: str) -> bool:
+def is_before(before: str, after: str, machine: Machine) -> bool:
     a, b = [machine.of("zone_name.specs.Name.folded", labels_of(name)) for name in (before, after)]
     return bool(machine.of("zone_name.specs.Order.name_cmp", a, b) == Made("Less")) \
         and bool(machine.of("zone_name.specs.Order.name_cmp", b, a) == Made("Greater"))
@@ -163,7 +164,7 @@ def digested_zones() -> list[Digested]:
     return zones
 
 
-def agrees(machine: Machine, of: Digested, words: list[str]) -> bool:
+def agrees(of: Digested, words: list[str], machine: Machine) -> bool:
     made = of.made(machine)
     if words[0] == "digest":
         algorithm = Made(f"zone_digest.specs.declared.algorithm.Algorithm.{ALGORITHMS[words[1]]}")
@@ -177,13 +178,16 @@ def agrees(machine: Machine, of: Digested, words: list[str]) -> bool:
 def digests() -> Iterator[Example]:
     for of in digested_zones():
         for words in of.said:
-            yield Example(f"{words[0]} {words[1]} of {of.name}", ("zone_digest", "data_names", "zone_rdata", "zone_name"),
-                          lambda m, z=of, w=words: agrees(m, z, w))
+            yield Example(f"{words[0]} {words[1]} of {of.name}", partial(agrees, of, words))
 
 
 # ---- $GENERATE
 
 GENERATE = "zone_generate.specs"
+
+
+def stands_for(items: str, wanted: str, machine: Machine) -> bool:
+    return generated(machine, items) == wanted
 
 
 def generated(machine: Machine, items: str) -> str:
@@ -201,7 +205,7 @@ def generated(machine: Machine, items: str) -> str:
 def generations() -> Iterator[Example]:
     for line in lines_of("generate.txt"):
         items, wanted = line.split(" | ")
-        yield Example(f"$GENERATE {items}", ("zone_generate",), lambda m, i=items, w=wanted: generated(m, i) == w)
+        yield Example(f"$GENERATE {items}", partial(stands_for, items, wanted))
 
 
 def every() -> list[Example]:

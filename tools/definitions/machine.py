@@ -1,9 +1,9 @@
 """Definitions by their names, applied to octets, texts and records as Python has them."""
 from collections.abc import Sequence
-from typing import Any
 
 from program import Program
-from solver import Solver, settled
+from solver import Solver
+from steps import settled
 from values import Fields, Made, Unknown, Value, front_of, list_of, octets_of, shown, take_back
 
 ITEM = "zone_rdata.specs.Item"
@@ -112,6 +112,3 @@ def record(owner: str, ttl: int, kind: int, octets: Value, record_class: int = 1
 
 def zone(apex: str, records: Sequence[Value]) -> Value:
     return Fields({"apex": labels_of(apex), "class": 1, "records": list_of(records)})
-
-
-__all__ = ["Any", "Machine"]

@@ -5,7 +5,10 @@ from functools import cache
 from pathlib import Path
 from typing import Any, cast
 
+import builtin
 import definitions
+import numerals  # noqa: F401
+import prelude
 from syntax import Shape, Tree, Unreadable, items_of, read_definition
 from values import CONS, NIL, Goal, Refused
 
@@ -160,21 +163,18 @@ class Program:
 
     def plain(self, name: str) -> Any:
         """A word of std, which `builtin` has."""
-        import builtin
-        name = builtin.ALIKE.get(name, name)
+        name = prelude.ALIKE.get(name, name)
         if name in PLAIN:
             return Constructor(name, PLAIN[name][1], PLAIN[name][0])
         if name in builtin.NAMES:
             return builtin.NAMES[name]
-        prelude = self.prelude()
-        if name in prelude.file.made:
+        if name in self.prelude().file.made:
             return self.definition("prelude", name)
         raise Refused(f"the word {name} of std")
 
     @cache
     def prelude(self) -> Scope:
-        import builtin
-        self.files["prelude"] = definitions.File(cast(Path, Text(builtin.prelude())))
+        self.files["prelude"] = definitions.File(cast(Path, Text(prelude.prelude())))
         return self.scope("prelude")
 
     # ---- types that the code declares
