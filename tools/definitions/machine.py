@@ -1,13 +1,26 @@
 """Definitions by their names, applied to octets, texts and records as Python has them."""
-from collections.abc import Sequence
+import multiprocessing
+from collections.abc import Callable, Iterator, Sequence
+from contextlib import contextmanager
+from typing import TypeVar
 
 from program import Program
 from solver import Solver
 from steps import settled
-from values import Fields, Made, Unknown, Value, front_of, list_of, octets_of, shown, take_back
+from values import Fields, Made, Refused, Unknown, Value, front_of, list_of, octets_of, shown, take_back
 
 ITEM = "zone_rdata.specs.Item"
 FAR = 200_000
+T = TypeVar("T")
+
+
+@contextmanager
+def refused_in(name: str) -> Iterator[None]:
+    """Names the definition in which something can't be evaluated."""
+    try:
+        yield
+    except Refused as e:
+        raise Refused(f"{name}: {e}") from e
 
 
 class Machine:
@@ -29,17 +42,19 @@ class Machine:
 
     def holds(self, name: str, *given: Value) -> bool:
         self.begin()
-        return self.solver.holds([self.solver.goal(self.of(name, *given))])
+        with refused_in(name):
+            return self.solver.holds([self.solver.goal(self.of(name, *given))])
 
     def found(self, name: str, *given: Value) -> list[Value]:
         """Each value for the last argument with which the proposition holds."""
         self.begin()
         last = Unknown()
         values = []
-        for _ in self.solver.solutions([self.solver.goal(self.of(name, *given, last))]):
-            value = settled(last)
-            if value not in values:
-                values.append(value)
+        with refused_in(name):
+            for _ in self.solver.solutions([self.solver.goal(self.of(name, *given, last))]):
+                value = settled(last)
+                if value not in values:
+                    values.append(value)
         return values
 
     def octets(self, name: str, *given: Value) -> bytes:
@@ -52,6 +67,24 @@ class Machine:
 
     def rows(self, name: str) -> list[Value]:
         return [shown(row) for row in front_of(self.of(name))[0]]
+
+
+def jobs_of(words: list[str]) -> int:
+    """How many processes are to run, as `--jobs N` says, which is taken out of the words: one where it isn't there."""
+    if "--jobs" not in words:
+        return 1
+    at = words.index("--jobs")
+    jobs = int(words[at + 1])
+    del words[at:at + 2]
+    return jobs
+
+
+def answers(answer: Callable[[T], str], of: Sequence[T], jobs: int) -> list[str]:
+    """The answer on each, found by so many processes."""
+    if jobs == 1:
+        return [answer(one) for one in of]
+    with multiprocessing.Pool(jobs) as pool:
+        return pool.map(answer, of, chunksize=1)
 
 
 def text(value: str | bytes) -> Value:
