@@ -15,7 +15,7 @@ from ..options import Parser, add_output, add_sources, form_of, reader_of
 from ..outputs import Output
 from ..patch import patch_of
 from ..sources import File, Git, sources_of
-from ..texts import safe
+from ..texts import coloured, safe
 from ..types import OF_SIGNERS, in_the_text, type_number
 from ..zones import Copy
 
@@ -93,9 +93,9 @@ def compared(a: Copy, b: Copy, form: str, given: argparse.Namespace, output: Out
     if form == "json":
         return output.answer(json_of(found, most), status, given.output)
     most = LINES if given.lines is None else most
-    is_on = output.has_colours and form == "text" and not given.output
-    text = github_of(found, most) if form == "github" else title + text_of(found, most, is_on)
-    return output.answer(text, status, given.output)
+    text = github_of(found, most) if form == "github" else title + text_of(found, most)
+    has_colours = output.has_colours and form == "text" and not given.output
+    return output.answer(coloured(text) if has_colours else text, status, given.output)
 
 
 def since(form: str, given: argparse.Namespace, output: Output) -> int:
