@@ -8,6 +8,7 @@ from itertools import groupby
 from . import engine
 from .folding import FOLDED, folded
 from .names import canonical_order
+from .types import OF_SIGNERS, in_the_text, type_number
 from .types import OF_THE_TEXT as TYPES
 from .zones import Copy
 
@@ -24,6 +25,18 @@ class Ignored:
     serial: bool = False
     ttl: bool = False
     types: frozenset[bytes] = frozenset()  # as the canonical text has them
+
+
+def ignored(text: str) -> Ignored:
+    """Returns what a LIST leaves out: serial, ttl, dnssec or types. Raises ValueError."""
+    names = tuple(it for it in text.split(",") if it)
+    types: set[int] = set()
+    for name in names:
+        if name == "dnssec":
+            types |= OF_SIGNERS
+        elif name not in ("serial", "ttl"):
+            types.add(type_number(name))
+    return Ignored(names, "serial" in names, "ttl" in names, frozenset(in_the_text(it).encode() for it in types))
 
 
 @dataclass

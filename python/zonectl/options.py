@@ -107,11 +107,16 @@ def add_sources(parser: Parser, has_origin: bool = True) -> None:
 
 def add_jobs(parser: Parser) -> None:
     """Adds how many inputs are read at once."""
-    parser.option("-j", "--jobs", type=bounds.whole(1000), default=min(os.cpu_count() or 1, 8), metavar="N",
+    parser.option("-j", "--jobs", type=bounds.whole(1000), metavar="N",
                   help="so many inputs at once (the number of CPUs, at most 8)")
 
 
-def at_once(items: Sequence[T], number: int, work: Callable[[T], R]) -> Iterator[R | Failure]:
+def default_jobs() -> int:
+    """Returns how many inputs are read at once if nothing is said."""
+    return min(os.cpu_count() or 1, 8)
+
+
+def at_once(items: Sequence[T], number: int | None, work: Callable[[T], R]) -> Iterator[R | Failure]:
     """Yields what each item comes to, or why to nothing, in their order, several at once. The engine's calls run beside each other."""
 
     def tried(item: T) -> R | Failure:
@@ -120,6 +125,7 @@ def at_once(items: Sequence[T], number: int, work: Callable[[T], R]) -> Iterator
         except Failure as failure:
             return failure
 
+    number = number or default_jobs()
     if number == 1 or len(items) < 2:
         yield from map(tried, items)
         return

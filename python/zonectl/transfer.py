@@ -11,6 +11,7 @@ from dataclasses import dataclass, field
 from typing import Protocol
 
 from .bounds import Limits
+from .connections import Lost
 from .errors import Failure, Refusal, Undone
 from .messages import AXFR, HEADER, Malformed, question, soas_among_answers
 from .tsig import BadSignature, Key, Signatures, key_error, named
@@ -54,13 +55,14 @@ class Frames:
     """The messages of a stream, each after its length of two octets."""
 
     def __init__(self, connection: Stream) -> None:
-        self.connection, self.rest = connection, bytearray()
+        rest = getattr(connection, "rest", None)  # where the connection serves another query after this one
+        self.connection, self.rest = connection, bytearray() if rest is None else rest
 
     def _fill(self, count: int) -> None:
         while len(self.rest) < count:
             piece = self.connection.recv(PIECE)
             if not piece:
-                raise Undone("the connection ended before the closing SOA")
+                raise Lost("the connection ended before the closing SOA")
             self.rest += piece
 
     def next(self) -> bytes:

@@ -7,7 +7,7 @@ import re
 from typing import Any
 
 from ..diff_text import github_of, json_of, json_of_one, text_of
-from ..difference import Difference, Ignored, difference_of
+from ..difference import Difference, Ignored, difference_of, ignored
 from ..errors import Failure, Status, Undone, Usage
 from ..files import Change, changed_since
 from ..nsupdate import parts_of
@@ -16,7 +16,6 @@ from ..outputs import Output
 from ..patch import patch_of
 from ..sources import File, Git, sources_of
 from ..texts import coloured, safe
-from ..types import OF_SIGNERS, in_the_text, type_number
 from ..zones import Copy
 
 ABOUT = """\
@@ -24,18 +23,6 @@ Prints how two copies of a zone differ, RRset by RRset. The first line is DIFFER
 serial, since no secondary will notice then. Names in RDATA compare without letter case (RFC 4343)."""
 LINES = 200
 FORMATS = ("text", "json", "patch", "nsupdate", "github")
-
-
-def ignored(text: str) -> Ignored:
-    """Returns what a LIST leaves out: serial, ttl, dnssec or types. Raises ValueError."""
-    names = tuple(it for it in text.split(",") if it)
-    types: set[int] = set()
-    for name in names:
-        if name == "dnssec":
-            types |= OF_SIGNERS
-        elif name not in ("serial", "ttl"):
-            types.add(type_number(name))
-    return Ignored(names, "serial" in names, "ttl" in names, frozenset(in_the_text(it).encode() for it in types))
 
 
 def lines(text: str) -> int:
