@@ -15,25 +15,24 @@ from . import __version__, texts as _texts  # noqa: F401  which registers how st
 from .errors import Failure, Status, Undone, Usage, system_reason
 from .outputs import Output, say, to_standard_output
 
-COMMANDS = {  # and the module of each
-    "normalise": "normalise", "normalize": "normalise", "diff": "diff", "sum": "sum", "check": "check",
-    "zonemd": "zonemd", "fetch": "fetch", "fleet": "fleet", "completion": "completion",
-}
 SIGNALS = (signal.SIGINT, signal.SIGHUP, signal.SIGTERM)
-HELP = """\
+ABOUT = {  # what comes after each, and what it does
+    "normalise": ("SOURCE", "print the canonical text of a zone"),
+    "diff": ("A B", "print how two copies of a zone differ"),
+    "check": ("[SOURCE|FOLDER..]", "print what is wrong with zone files, and which servers refuse them"),
+    "sum": ("SOURCE..", "print the digest of each zone; sum --check FILE compares"),
+    "zonemd": ("verify|add SOURCE", "verify a zone against its ZONEMD record, or give it one"),
+    "fetch": ("SOURCE -o FILE", "keep the octets that a server sends"),
+    "fleet": ("run|report|merge", "compare many zones with many servers"),
+    "completion": ("bash|zsh|fish", "print a completion for the shell"),
+}
+COMMANDS = {**{name: name for name in ABOUT}, "normalize": "normalise"}  # and the module of each
+HELP = f"""\
 usage: zonectl COMMAND [OPTION].. SOURCE..
 
 Are two copies of a DNS zone the same, and if not, what differs?
 
-  normalise SOURCE            print the canonical text of a zone
-  diff A B                    print how two copies of a zone differ
-  check [SOURCE|FOLDER..]     print what is wrong with zone files, and which servers refuse them
-  sum SOURCE..                print the digest of each zone; sum --check FILE compares
-  zonemd verify|add SOURCE    verify a zone against its ZONEMD record, or give it one
-  fetch SOURCE -o FILE        keep the octets that a server sends
-  fleet run|report|merge      compare many zones with many servers
-  completion bash|zsh|fish    print a completion for the shell
-
+{"".join(f"  {f'{name} {more}':<27} {what}{chr(10)}" for name, (more, what) in ABOUT.items())}
 SOURCE is a file, - (standard input), axfr://[KEY@]HOST[:PORT]/ZONE, axfrs:// (over TLS), https://..,
 git:[REV]:PATH, or file:PATH, capture:PATH or dig:PATH.
 

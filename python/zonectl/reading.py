@@ -148,14 +148,14 @@ def from_path(path: str, limits: Limits) -> bytes:
 
 def from_descriptor(descriptor: int, limits: Limits) -> bytes:
     """Returns the octets of an open file. A pipe and a terminal may take until the deadline."""
-    clock, found = limits.clock("reading"), bytearray()
-    poll = None if stat.S_ISREG(os.fstat(descriptor).st_mode) else select.poll()
+    clock, found, status = limits.clock("reading"), bytearray(), os.fstat(descriptor)
+    poll = None if stat.S_ISREG(status.st_mode) else select.poll()
     if poll:
         poll.register(descriptor, select.POLLIN)
     while True:
         if poll:
             _until_ready(poll, clock)
-        piece = os.read(descriptor, PIECE)
+        piece = os.read(descriptor, PIECE if poll else min(status.st_size + 1, PIECE))
         found += piece
         if len(found) > limits.max_size:
             raise limits.too_large()
