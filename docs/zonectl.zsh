@@ -46,10 +46,10 @@ _zonectl() {
                 '--origin-from=[name or text\: which one says the zone of a file, where its name and its text disagree]:WHICH:(name text)' \
                 '*-k+[TSIG keys as tsig-keygen writes them; may be repeated]:FILE:_files' \
                 '*--key=[TSIG keys as tsig-keygen writes them; may be repeated]:FILE:_files' \
-                '--tls-ca=[trust these certificates (PEM) instead of the systems]:FILE:_files' \
-                '--tls-name=[the name in the servers certificate, if it isnt HOST]:NAME: ' \
+                '--tls-ca=[trust these certificates (PEM) instead of the system'\''s]:FILE:_files' \
+                '--tls-name=[the name in the server'\''s certificate, if it isn'\''t HOST]:NAME: ' \
                 '--tls-client=[client certificate and key (PEM)]:FILE:_files' \
-                '--tls-no-verify[dont check the servers certificate]' \
+                '--tls-no-verify[don'\''t check the server'\''s certificate]' \
                 '(-t --timeout)-t+[bound of each wait (30s; 0\: none)]:TIME: ' \
                 '(-t --timeout)--timeout=[bound of each wait (30s; 0\: none)]:TIME: ' \
                 '--deadline=[bound of one source (10m; 0\: none)]:TIME: ' \
@@ -81,8 +81,8 @@ _zonectl() {
                 '(-i --ignore)--ignore=[leave out, separated by commas\: serial, ttl, dnssec (what a signer adds), or types as CAA or TYPE257]:LIST:(serial ttl dnssec)' \
                 '(-e --exact)-e[compare names in RDATA with their letter case]' \
                 '(-e --exact)--exact[compare names in RDATA with their letter case]' \
-                '(-z --require-zonemd)-z[refuse a transfer that its ZONEMD records dont verify]' \
-                '(-z --require-zonemd)--require-zonemd[refuse a transfer that its ZONEMD records dont verify]' \
+                '(-z --require-zonemd)-z[refuse a transfer that its ZONEMD records don'\''t verify]' \
+                '(-z --require-zonemd)--require-zonemd[refuse a transfer that its ZONEMD records don'\''t verify]' \
                 '(-n --lines)-n+[show so many lines of a difference (200), or all]:N:(all)' \
                 '(-n --lines)--lines=[show so many lines of a difference (200), or all]:N:(all)' \
                 '--format=[text, json, patch (a unified diff, always exact), nsupdate (commands that make A into B) or github (Markdown)]:FORMAT:(text json patch nsupdate github)' \
@@ -100,10 +100,10 @@ _zonectl() {
                 '--origin-from=[name or text\: which one says the zone of a file, where its name and its text disagree]:WHICH:(name text)' \
                 '*-k+[TSIG keys as tsig-keygen writes them; may be repeated]:FILE:_files' \
                 '*--key=[TSIG keys as tsig-keygen writes them; may be repeated]:FILE:_files' \
-                '--tls-ca=[trust these certificates (PEM) instead of the systems]:FILE:_files' \
-                '--tls-name=[the name in the servers certificate, if it isnt HOST]:NAME: ' \
+                '--tls-ca=[trust these certificates (PEM) instead of the system'\''s]:FILE:_files' \
+                '--tls-name=[the name in the server'\''s certificate, if it isn'\''t HOST]:NAME: ' \
                 '--tls-client=[client certificate and key (PEM)]:FILE:_files' \
-                '--tls-no-verify[dont check the servers certificate]' \
+                '--tls-no-verify[don'\''t check the server'\''s certificate]' \
                 '(-t --timeout)-t+[bound of each wait (30s; 0\: none)]:TIME: ' \
                 '(-t --timeout)--timeout=[bound of each wait (30s; 0\: none)]:TIME: ' \
                 '--deadline=[bound of one source (10m; 0\: none)]:TIME: ' \
@@ -126,10 +126,10 @@ _zonectl() {
                 '--color=[colours\: auto (on a terminal), always or never]:WHEN:(auto always never)' \
                 '*-k+[TSIG keys as tsig-keygen writes them; may be repeated]:FILE:_files' \
                 '*--key=[TSIG keys as tsig-keygen writes them; may be repeated]:FILE:_files' \
-                '--tls-ca=[trust these certificates (PEM) instead of the systems]:FILE:_files' \
-                '--tls-name=[the name in the servers certificate, if it isnt HOST]:NAME: ' \
+                '--tls-ca=[trust these certificates (PEM) instead of the system'\''s]:FILE:_files' \
+                '--tls-name=[the name in the server'\''s certificate, if it isn'\''t HOST]:NAME: ' \
                 '--tls-client=[client certificate and key (PEM)]:FILE:_files' \
-                '--tls-no-verify[dont check the servers certificate]' \
+                '--tls-no-verify[don'\''t check the server'\''s certificate]' \
                 '(-t --timeout)-t+[bound of each wait (30s; 0\: none)]:TIME: ' \
                 '(-t --timeout)--timeout=[bound of each wait (30s; 0\: none)]:TIME: ' \
                 '--deadline=[bound of one source (10m; 0\: none)]:TIME: ' \
@@ -152,7 +152,7 @@ _zonectl() {
                 '--exit-zero[status 0 if the results were written (run)]' \
                 '--html=[write a page of HTML]:FILE:_files' \
                 '--metrics=[write metrics for Prometheus]:FILE:_files' \
-                '--verbose[a line on standard error for each zone that isnt compared]' \
+                '--verbose[a line on standard error for each zone that isn'\''t compared]' \
                 '--max-size=[bound of one source after decompression (128M; at most 1G)]:SIZE: ' \
                 '(-j --jobs)-j+[so many inputs at once (the number of CPUs, at most 8)]:N: ' \
                 '(-j --jobs)--jobs=[so many inputs at once (the number of CPUs, at most 8)]:N: ' \
@@ -186,10 +186,10 @@ _zonectl() {
                 '--origin-from=[name or text\: which one says the zone of a file, where its name and its text disagree]:WHICH:(name text)' \
                 '*-k+[TSIG keys as tsig-keygen writes them; may be repeated]:FILE:_files' \
                 '*--key=[TSIG keys as tsig-keygen writes them; may be repeated]:FILE:_files' \
-                '--tls-ca=[trust these certificates (PEM) instead of the systems]:FILE:_files' \
-                '--tls-name=[the name in the servers certificate, if it isnt HOST]:NAME: ' \
+                '--tls-ca=[trust these certificates (PEM) instead of the system'\''s]:FILE:_files' \
+                '--tls-name=[the name in the server'\''s certificate, if it isn'\''t HOST]:NAME: ' \
                 '--tls-client=[client certificate and key (PEM)]:FILE:_files' \
-                '--tls-no-verify[dont check the servers certificate]' \
+                '--tls-no-verify[don'\''t check the server'\''s certificate]' \
                 '(-t --timeout)-t+[bound of each wait (30s; 0\: none)]:TIME: ' \
                 '(-t --timeout)--timeout=[bound of each wait (30s; 0\: none)]:TIME: ' \
                 '--deadline=[bound of one source (10m; 0\: none)]:TIME: ' \
@@ -220,10 +220,10 @@ _zonectl() {
                 '--origin-from=[name or text\: which one says the zone of a file, where its name and its text disagree]:WHICH:(name text)' \
                 '*-k+[TSIG keys as tsig-keygen writes them; may be repeated]:FILE:_files' \
                 '*--key=[TSIG keys as tsig-keygen writes them; may be repeated]:FILE:_files' \
-                '--tls-ca=[trust these certificates (PEM) instead of the systems]:FILE:_files' \
-                '--tls-name=[the name in the servers certificate, if it isnt HOST]:NAME: ' \
+                '--tls-ca=[trust these certificates (PEM) instead of the system'\''s]:FILE:_files' \
+                '--tls-name=[the name in the server'\''s certificate, if it isn'\''t HOST]:NAME: ' \
                 '--tls-client=[client certificate and key (PEM)]:FILE:_files' \
-                '--tls-no-verify[dont check the servers certificate]' \
+                '--tls-no-verify[don'\''t check the server'\''s certificate]' \
                 '(-t --timeout)-t+[bound of each wait (30s; 0\: none)]:TIME: ' \
                 '(-t --timeout)--timeout=[bound of each wait (30s; 0\: none)]:TIME: ' \
                 '--deadline=[bound of one source (10m; 0\: none)]:TIME: ' \
@@ -252,10 +252,10 @@ _zonectl() {
                 '--origin-from=[name or text\: which one says the zone of a file, where its name and its text disagree]:WHICH:(name text)' \
                 '*-k+[TSIG keys as tsig-keygen writes them; may be repeated]:FILE:_files' \
                 '*--key=[TSIG keys as tsig-keygen writes them; may be repeated]:FILE:_files' \
-                '--tls-ca=[trust these certificates (PEM) instead of the systems]:FILE:_files' \
-                '--tls-name=[the name in the servers certificate, if it isnt HOST]:NAME: ' \
+                '--tls-ca=[trust these certificates (PEM) instead of the system'\''s]:FILE:_files' \
+                '--tls-name=[the name in the server'\''s certificate, if it isn'\''t HOST]:NAME: ' \
                 '--tls-client=[client certificate and key (PEM)]:FILE:_files' \
-                '--tls-no-verify[dont check the servers certificate]' \
+                '--tls-no-verify[don'\''t check the server'\''s certificate]' \
                 '(-t --timeout)-t+[bound of each wait (30s; 0\: none)]:TIME: ' \
                 '(-t --timeout)--timeout=[bound of each wait (30s; 0\: none)]:TIME: ' \
                 '--deadline=[bound of one source (10m; 0\: none)]:TIME: ' \
@@ -283,10 +283,10 @@ _zonectl() {
                 '--origin-from=[name or text\: which one says the zone of a file, where its name and its text disagree]:WHICH:(name text)' \
                 '*-k+[TSIG keys as tsig-keygen writes them; may be repeated]:FILE:_files' \
                 '*--key=[TSIG keys as tsig-keygen writes them; may be repeated]:FILE:_files' \
-                '--tls-ca=[trust these certificates (PEM) instead of the systems]:FILE:_files' \
-                '--tls-name=[the name in the servers certificate, if it isnt HOST]:NAME: ' \
+                '--tls-ca=[trust these certificates (PEM) instead of the system'\''s]:FILE:_files' \
+                '--tls-name=[the name in the server'\''s certificate, if it isn'\''t HOST]:NAME: ' \
                 '--tls-client=[client certificate and key (PEM)]:FILE:_files' \
-                '--tls-no-verify[dont check the servers certificate]' \
+                '--tls-no-verify[don'\''t check the server'\''s certificate]' \
                 '(-t --timeout)-t+[bound of each wait (30s; 0\: none)]:TIME: ' \
                 '(-t --timeout)--timeout=[bound of each wait (30s; 0\: none)]:TIME: ' \
                 '--deadline=[bound of one source (10m; 0\: none)]:TIME: ' \

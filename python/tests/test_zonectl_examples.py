@@ -57,6 +57,3 @@ class Examples(InFolder):
                     self.assertEqual(self.run_by_sh(command), wanted)
             self.assertGreater(number, 15)
             self.assertEqual(len(dripping.queries), 1)
-
-    def test_what_comes_later_says_so(self) -> None:
-        self.assertEqual(self.run_by_sh("zonectl fleet"), "zonectl: the subcommand fleet isn't in this version\n[2]")
