@@ -1,6 +1,7 @@
 """zonectl fleet: many zones and servers, of which some are dead, silent, drip or lie."""
 from __future__ import annotations
 
+import dataclasses
 import json
 import os
 import re
@@ -15,6 +16,7 @@ from pathlib import Path
 from typing import Any
 
 import zonectl
+from zonectl.fleet import config
 from zonectl_secondary import AXFR, SOA, ZONE, Secondary, secondary
 from zonectl_support import InFolder, Ran, command, environment, faults, run_alone
 
@@ -22,6 +24,7 @@ ODD = (  # names of zones that a list may have
     "<script>alert(1)</script>.", '"quoted".', r"a\.b.", r"back\\slash.", "CAPITALS.", r"\035.", r"\195\188.", "&amp;.", "_tcp.example.",
     "-x.", "*.example.", "0/25.2.0.192.in-addr.arpa.", "'apostrophe'.",
 )
+PAGE = Path(__file__).resolve().parents[2] / "docs/zonectl-fleet.toml.5"
 SECONDS = re.compile(r"; [0-9.]+ s\n\Z")
 
 
@@ -500,6 +503,14 @@ class Configuration(Fleet):
                 self.assert_failed(self.fleet("--check-config"), 2, f"zonectl: fleet.toml: {wanted}")
         self.write("fleet.toml", "version = ")
         self.assertRegex(self.fleet().err, r"^zonectl: fleet\.toml: it isn't TOML: .*\n$")
+
+    @unittest.skipUnless(PAGE.exists(), "the documents aren't beside the tests")
+    def test_each_key_is_in_the_page(self) -> None:
+        page = PAGE.read_text()
+        for made in (config.Config, config.Zones, config.Catalog, config.Server, config.Override, config.Run, config.Written):
+            for it in dataclasses.fields(made):
+                name = {"rdclass": "class", "digest": "version"}.get(it.name, it.name)
+                self.assertRegex(page, rf"\b{name}\b")
 
     def test_usage(self) -> None:
         self.config(1)

@@ -44,9 +44,9 @@ class CompareZone(Job):
 
     def test_all_types_are_read_in_process_without_temporary_files(self) -> None:
         more = {"TMPDIR": "/nowhere", "ZONENORM": "./missing", "ZONEWORDS": "./missing", "ZONEDIGEST": "./missing"}
-        self.assertEqual(run_alone("diff", "-O", "example", "words.zone", "words.zone", **more).status, 0)
-        self.assertEqual(run_alone("diff", "-z", "-i", "serial,dnssec", "-O", "example", "first.zone", "signed-by-knot.axfr", **more).status, 0)
-        it = run_alone("diff", "-O", "example", "refused-base64.zone", "example.axfr", **more)
+        self.assertEqual(run_alone("diff", "-O", "example", "words.zone", "words.zone", given=b"", **more).status, 0)
+        self.assertEqual(run_alone("diff", "-z", "-i", "serial,dnssec", "-O", "example", "first.zone", "signed-by-knot.axfr", given=b"", **more).status, 0)
+        it = run_alone("diff", "-O", "example", "refused-base64.zone", "example.axfr", given=b"", **more)
         self.assertEqual((it.status, it.err), (3, "zonectl: refused-base64.zone:5: F9 BadRdata: DNSKEY, public key: not base64\n"))
 
     def test_what_is_left_out(self) -> None:

@@ -79,7 +79,7 @@ def run(given: argparse.Namespace, output: Output) -> int:
 
 def _words(action: argparse.Action) -> list[str]:
     """Returns the values of an option that are known."""
-    return list(action.choices or MORE.get(action.option_strings[-1], ()))
+    return list(MORE.get(action.option_strings[-1], ()) if action.choices is None else action.choices)
 
 
 def bash() -> str:
