@@ -462,6 +462,21 @@ class Outputs(Fleet):
             os.umask(mode)
             self.assertEqual((self.folder / "m").stat().st_mode & 0o777, 0o640)
 
+    def test_results_that_someone_else_wrote(self) -> None:
+        self.listed(["differs.a."])
+        with secondary() as server:
+            self.config(server.port)
+            self.fleet("--results", "r")
+        head, pair = (self.folder / "r").read_text().splitlines()
+        self.write("hostile", f"{head}\n" + json.dumps({**json.loads(pair), "text": "\x1b[2J\u202e\n", "zone": "<b>\x07"}) + "\n")
+        it = run_alone("fleet", "report", "--html", "h", "hostile")
+        self.assertTrue(it.out.startswith("== <b>\\x07 at ns2\n\\x1b[2J\\xe2\\x80\\xae\n"), it.out)
+        self.seen_page((self.folder / "h").read_text())
+        for name, value in (("status", 5), ("status", "1"), ("zone", 1), ("serials", {"reference": "<b>", "server": 1}), ("serials", []),
+                            ("result", "x"), ("transferred", 1), ("text", None), ("at", "1"), ("seconds", "1")):
+            self.write("hostile", f"{head}\n" + json.dumps({**json.loads(pair), name: value}) + "\n")
+            self.assert_failed(run_alone("fleet", "report", "hostile"), 4, "zonectl: hostile: it isn't what --results wrote")
+
     def test_quiet_and_a_file(self) -> None:
         self.listed(["a."])
         with secondary() as server:
@@ -490,7 +505,7 @@ class Configuration(Fleet):
             (good + 'timeout = "soon"\n', "server[1]: timeout: not a time: soon (seconds, or a number with s, m, h or d)"),
             (good + '[[server]]\nname = "ns2"\naddress = "192.0.2.2"\n',
              'server: at least one is needed, each with a name of its own, which isn\'t "files"'),
-            (good + '[run]\nreference = "ns9"\n', "run: reference: no server is named ns9"),
+            (good + '[run]\nreference = "ns9"\n', "run: reference: no server is named ns9, or it is the only one"),
             (good + '[run]\nmemory = "much"\n', "run: memory: not a size from 1 to 1024G: much (octets, or a number with K, M or G)"),
             (good + '[[override]]\nzone = "x"\nservers = ["ns9"]\n', "override[1]: servers: no server is named ns9"),
             (good + '[output]\nhtm = "x"\n', "output: htm isn't a key here; the nearest is html"),

@@ -16,7 +16,7 @@ from collections.abc import Callable, Iterator
 from typing import Any, NoReturn
 
 AHEAD = 8  # items that a worker has at most
-PIECE = 1 << 20
+PIECE = 1 << 16
 Work = Callable[[int], Any]  # what an item, by its number, comes to
 
 

@@ -273,8 +273,8 @@ def _must_agree(it: Config) -> None:
         raise ValueError("server: at least one is needed, each with a name of its own, which isn't \"files\"")
     if not any(vars(it.zones).values()):
         raise ValueError("zones: one of glob, list and catalog is needed")
-    if it.run.reference != FILES and it.run.reference not in names:
-        raise ValueError(f"run: reference: no server is named {it.run.reference}")
+    if it.run.reference != FILES and (it.run.reference not in names or len(names) < 2):
+        raise ValueError(f"run: reference: no server is named {it.run.reference}, or it is the only one")
     if it.zones.catalog and not it.zones.catalog.files and it.run.reference == FILES:
         raise ValueError("zones: catalog: files is needed, as in \"/var/lib/bind/{}.zone\"")
     for number, server in enumerate(it.server, 1):

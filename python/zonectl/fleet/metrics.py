@@ -5,9 +5,8 @@ from collections.abc import Callable, Iterator
 from typing import Any
 
 from .comparing import Pair
-from .results import Results
+from .results import RESULTS, Results
 
-RESULTS = ("same", "different", "one-serial", "refused", "not-compared")
 Values = Callable[[Pair], dict[str, Any]]  # the side, or nothing, and the value
 
 

@@ -44,7 +44,7 @@ pre { overflow-x: auto; border: 1px solid var(--line); padding: .6rem; margin: .
 .gone, .come { display: block; padding: 0 .3rem; }
 .gone { background: #ffb2002e; }
 .come { background: #2f81f72e; }
-.quiet { color: var(--quiet); }
+.quiet { color: var(--quiet); font-weight: normal; white-space: normal; }
 section { scroll-margin-top: 1rem; }
 section:target h2 { outline: 2px solid; outline-offset: .2rem; }
 @media (max-width: 45rem) {

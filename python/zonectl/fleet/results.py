@@ -7,15 +7,17 @@ import time
 from collections import Counter
 from collections.abc import Iterator
 from dataclasses import dataclass, field, replace
+from typing import Any
 
+from ..bounds import Limits
 from ..errors import Failure, Status, Undone, about
 from ..outputs import Output
 from ..reading import from_path
-from ..bounds import Limits
 from ..texts import counted, duration, safe
 from .comparing import Pair, failed, pair_of
 
 FORMAT = "zonectl-fleet-run/1"
+RESULTS = ("same", "different", "one-serial", "refused", "not-compared")
 DIFFERENT = ("one-serial", "different")
 WORDS = {"refused": "refused", "not-compared": "not compared"}
 
@@ -61,7 +63,8 @@ class Results:
         """Yields the text of each pair that differs."""
         for it in self.pairs:
             if it["result"] in DIFFERENT:
-                yield f"== {safe(it['zone'])} at {safe(it['server'])}\n{it['text'] or safe(it['reason'] or '') + chr(10)}"
+                lines = it["text"].split("\n")[:-1] or [it["reason"] or ""]
+                yield "".join(f"{safe(line)}\n" for line in (f"== {it['zone']} at {it['server']}", *lines))
 
     def failures(self) -> dict[tuple[str, str, str], list[str]]:
         """Returns the zones that weren't compared, by result, server and reason."""
@@ -81,6 +84,14 @@ class Results:
                 output.note(f"{counted(len(zones), 'zone')} {WORDS[result]}: {reason}", server)
 
 
+def _is_pair(it: Any) -> bool:
+    """Whether an object of a file, which may come from anywhere, is a pair."""
+    is_number = all(value is None or type(value) is int for name in ("serials", "records") for value in it[name].values())
+    return is_number and it["result"] in RESULTS and it["status"] in (0, 1, 3, 4) and all(
+        type(it[name]) is type(value) or value is None and isinstance(it[name], str | dict) or isinstance(value, float)
+        and type(it[name]) is int for name, value in pair_of("", "").items())
+
+
 def read(path: str) -> Results:
     """Returns the results of a file. Raises Failure."""
     with about(path):
@@ -89,10 +100,10 @@ def read(path: str) -> Results:
             head, *pairs = (json.loads(it) for it in lines if it)
             if head.pop("format") != FORMAT:
                 raise ValueError
-            empty = pair_of("", "")
-            if any(it.keys() < empty.keys() or it["format"] != empty["format"] for it in pairs):
+            found = Results(**head, pairs=pairs)
+            if not all(map(_is_pair, pairs)) or not all(isinstance(it, str) for it in found.servers) or not 1 <= found.part <= found.parts:
                 raise ValueError
-            return Results(**head, pairs=pairs)
+            return found
         except (ValueError, TypeError, KeyError, AttributeError):
             raise Undone("it isn't what --results wrote") from None
 
