@@ -438,7 +438,7 @@ class Outputs(Fleet):
             self.assertEqual((it.returncode, it.stdout), (0, ""))
 
     def test_the_page_begins_with_the_alarm(self) -> None:
-        self.listed(["m.differs.", *(f"refusing{it}." for it in range(5000))])
+        self.write("zones.list", "m.differs. z\n" + "".join(f"zone{it}.example. missing\n" for it in range(5000)))
         with secondary() as server:
             self.config(server.port, more='[output]\nhtml = "h"')
             self.assertEqual(self.fleet().status, 4)

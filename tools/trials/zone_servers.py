@@ -167,6 +167,7 @@ def zonectl(*words, run=ZONECTL):
 
 def captured(port, path, *more, run=ZONECTL, of="IN"):
     """Captures the transfer of the server at a port: the status, and what was said."""
+    Path(path).write_bytes(b"")  # since zonectl leaves a file as it is if nothing came
     return zonectl("fetch", "-t", "5", *more, url_of(port, more, of), "-o", path, run=run)
 
 
