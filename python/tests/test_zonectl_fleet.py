@@ -492,16 +492,16 @@ class Configuration(Fleet):
         good = 'version = 1\n[zones]\nlist = "zones.list"\n[[server]]\nname = "ns2"\naddress = "192.0.2.1"\n'
         self.listed(["a."])
         for text, wanted in (
-            ("", "it needs version, zones, and server"), (good.replace("version = 1", "version = 2"), "version: it isn't a number from 1 to 1"),
+            ("", "it needs version and zones and server"), (good.replace("version = 1", "version = 2"), "version: it isn't a number from 1 to 1"),
             (good + "adress = 1\n", "server[1]: adress isn't a key here; the nearest is address"),
             (good + "port = 0\n", "server[1]: port: it isn't a number from 1 to 65535"),
             (good + "port = true\n", "server[1]: port: it isn't a number from 1 to 65535"),
-            (good + "tls = 1\n", "server[1]: tls: it is neither true nor false"),
+            (good + "tls = 1\n", "server[1]: tls: it isn't true or false"),
             (good + 'class = "XX"\n', "server[1]: class: not a class: XX"),
             (good + 'capture = "{}.axfr"\n', "server[1]: it needs address or capture, one of them"),
-            (good + 'key = "k"\n', "server[1]: key: [keys] has no k"),
+            (good + 'key = "k"\n', "server: key: [keys] has no k"),
             (good + 'ignore = ["CAAA"]\n', "server[1]: ignore: not a type: CAAA"),
-            (good + 'ignore = "serial"\n', "server[1]: ignore: it isn't a list of texts"),
+            (good + 'ignore = "serial"\n', "server[1]: ignore: it isn't a list"),
             (good + 'timeout = "soon"\n', "server[1]: timeout: not a time: soon (seconds, or a number with s, m, h or d)"),
             (good + '[[server]]\nname = "ns2"\naddress = "192.0.2.2"\n',
              'server: at least one is needed, each with a name of its own, which isn\'t "files"'),
