@@ -51,7 +51,7 @@ def run(given: argparse.Namespace, output: Output) -> int:
         return output.answer(object_of(copy, given.fold) if given.json else text_of(copy, given), Status.SAME, given.output)
     seen: set[str] = set()
     return max(output.failed(it) if isinstance(it, Failure) else it for it in at_once(
-        sources, 1, lambda source: written(reader.copy(source), given, output, seen)))
+        sources, 1, lambda source: written(reader.copy(source), given, output, seen), output, lambda it: it.text))
 
 
 def text_of(copy: Copy, given: argparse.Namespace) -> bytes:
