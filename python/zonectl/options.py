@@ -116,7 +116,9 @@ def default_jobs() -> int:
     return min(os.cpu_count() or 1, 8)
 
 
-def at_once(items: Sequence[T], number: int | None, work: Callable[[T], R], output: Output, named: Callable[[T], str]) -> Iterator[R | Failure]:
+def at_once(
+    items: Sequence[T], number: int | None, work: Callable[[T], R], output: Output, named: Callable[[T], str],
+) -> Iterator[R | Failure]:
     """Yields what each item comes to, or why to nothing, in their order. Several are done at once by processes, if there are several."""
 
     def tried(item: T) -> R | Failure:

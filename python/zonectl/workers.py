@@ -86,63 +86,67 @@ def _works(taken: int, given: int, make: Callable[[], Work], memory: int | None)
     os._exit(0)
 
 
+class Pool:
+    """The workers that run, and the items that wait."""
+
+    def __init__(self, items: int, jobs: int, make: Callable[[int], Work], memory: int | None, ended: Callable[[int], object]) -> None:
+        self.waiting, self.jobs, self.make, self.memory, self.ended = deque(range(items)), jobs, make, memory, ended
+        self.workers: dict[int, Worker] = {}
+        self.selector = selectors.DefaultSelector()
+
+    def start(self, number: int) -> None:
+        """Starts a worker."""
+        worker = self.workers[number] = Worker(number, lambda: self.make(number), self.memory, list(self.workers.values()))
+        self.selector.register(worker.answers, selectors.EVENT_READ, worker)
+        self.hand_out(worker)
+
+    def hand_out(self, worker: Worker) -> None:
+        """Hands out items, fewer towards the end."""
+        most = 1 + min(AHEAD - 1, len(self.waiting) // (4 * self.jobs))
+        while self.waiting and len(worker.items) < most:
+            worker.give(self.waiting.popleft())
+
+    def stop(self, worker: Worker) -> int:
+        """Ends a worker, and returns its status."""
+        self.selector.unregister(worker.answers)
+        del self.workers[worker.number]
+        self.ended(worker.number)
+        return worker.end()
+
+    def taken(self, worker: Worker) -> Iterator[tuple[int, Any]]:
+        """Yields what a worker answers now, and sees what it does next. One that ended loses the item that it had."""
+        octets = os.read(worker.answers, PIECE)
+        for answer, worker.is_spent in worker.lines(octets):
+            yield worker.items.popleft(), answer
+        if not octets or worker.is_spent:
+            status = self.stop(worker)
+            if worker.items and not worker.is_spent:
+                yield worker.items.popleft(), Gone(f"a worker was ended by signal {-status}" if status < 0 else "a worker ended")
+            self.waiting.extendleft(reversed(worker.items))
+            if self.waiting:
+                self.start(worker.number)
+        elif self.waiting:
+            self.hand_out(worker)
+        elif not worker.items:
+            self.stop(worker)
+
+
 def answers(items: int, jobs: int, make: Callable[[int], Work], memory: int | None = None, ends: float | None = None,
             ended: Callable[[int], object] = lambda worker: None) -> Iterator[tuple[int, Any]]:
     """Yields each item with its answer, as they come: None if its worker ran out of memory, `Gone` if it ended. `make` makes in a worker
     of this number what it does. `ends` is a time of the monotonic clock, after which the items that are left are `Gone("")`; `ended` gets
     the number of each worker that ends."""
-    waiting = deque(range(items))
-    workers: dict[int, Worker] = {}
-    with selectors.DefaultSelector() as selector:
-        def start(number: int) -> None:
-            worker = Worker(number, lambda: make(number), memory, list(workers.values()))
-            workers[number] = worker
-            selector.register(worker.answers, selectors.EVENT_READ, worker)
-            hand_out(worker)
-
-        def hand_out(worker: Worker) -> None:
-            most = 1 + min(AHEAD - 1, len(waiting) // (4 * jobs))
-            while waiting and len(worker.items) < most:
-                worker.give(waiting.popleft())
-
-        def stop(worker: Worker) -> int:
-            selector.unregister(worker.answers)
-            del workers[worker.number]
-            ended(worker.number)
-            return worker.end()
-
-        try:
-            for number in range(min(jobs, items)):
-                start(number)
-            while workers:
-                left = None if ends is None else max(ends - time.monotonic(), 0)
-                ready = selector.select(left)
-                if ends is not None and time.monotonic() >= ends:
-                    break
-                for key, _ in ready:
-                    worker: Worker = key.data
-                    octets = os.read(worker.answers, PIECE)
-                    for answer, worker.is_spent in worker.lines(octets):
-                        yield worker.items.popleft(), answer
-                    if not octets or worker.is_spent:
-                        yield from _lost(worker, stop(worker), waiting)
-                        if waiting:
-                            start(worker.number)
-                    elif waiting:
-                        hand_out(worker)
-                    elif not worker.items:
-                        stop(worker)
-            for worker in list(workers.values()):
-                waiting.extend(worker.items)
-            yield from ((item, Gone("")) for item in waiting)
-        finally:
-            for worker in list(workers.values()):
-                stop(worker)
-
-
-def _lost(worker: Worker, status: int, waiting: deque[int]) -> Iterator[tuple[int, Gone]]:
-    """Yields the item that a worker had when it ended; those that it hadn't begun wait again."""
-    if worker.items and not worker.is_spent:
-        yield worker.items.popleft(), Gone(f"a worker was ended by signal {-status}" if status < 0 else "a worker ended")
-    waiting.extendleft(reversed(worker.items))
-    worker.items.clear()
+    pool = Pool(items, jobs, make, memory, ended)
+    try:
+        for number in range(min(jobs, items)):
+            pool.start(number)
+        while pool.workers and (ends is None or time.monotonic() < ends):
+            for key, _ in pool.selector.select(None if ends is None else max(ends - time.monotonic(), 0)):
+                yield from pool.taken(key.data)
+        for worker in pool.workers.values():
+            pool.waiting.extend(worker.items)
+        yield from ((item, Gone("")) for item in pool.waiting)
+    finally:
+        for worker in list(pool.workers.values()):
+            pool.stop(worker)
+        pool.selector.close()

@@ -126,8 +126,8 @@ def _of_zsh(action: argparse.Action, parser: Parser) -> list[str]:
     value = ""
     if action.nargs != 0:
         words = _words(action)
-        kind = f"({' '.join(words)})" if words else "_directories" if action.metavar == "DIR" else "_files" if action.metavar == "FILE" else " "
-        value = f":{action.metavar}:{kind}"
+        kind = {"DIR": "_directories", "FILE": "_files"}.get(str(action.metavar), " ")
+        value = f":{action.metavar}:({' '.join(words)})" if words else f":{action.metavar}:{kind}"
     names, specs = action.option_strings, []
     for name in names:
         others = f"({' '.join(names)})" if len(names) > 1 and not isinstance(action.default, list) else ""
@@ -148,7 +148,8 @@ def fish() -> str:
             options += f"{seen} -f -a '{' '.join(parser.words)}'\n"
         for action in parser.options():
             names = " ".join(f"-l {it[2:]}" if it.startswith("--") else f"-s {it[1:]}" for it in action.option_strings)
-            takes = "" if action.nargs == 0 or action.option_strings[0] in parser.alone else " -r" if action.metavar in ("FILE", "DIR") else " -x"
+            has_value = action.nargs != 0 and action.option_strings[0] not in parser.alone
+            takes = (" -r" if action.metavar in ("FILE", "DIR") else " -x") if has_value else ""
             words = f" -a '{' '.join(_words(action))}'" if _words(action) else ""
             options += f"{seen} {names}{takes}{words} -d {_quoted(action.help or '')}\n"
     return FISH.format(commands=commands, options=options)

@@ -27,7 +27,8 @@ def _sides(name: str) -> Values:
 
 OF_PAIRS: dict[str, tuple[str, Values]] = {
     "status": ("0 same, 1 different, 3 refused, 4 not compared", lambda it: {"": it["status"]}),
-    "under_one_serial": ("1 if both differ under one serial", lambda it: {"": int(it["result"] == "one-serial")} if _is_compared(it) else {}),
+    "under_one_serial": (
+        "1 if both differ under one serial", lambda it: {"": int(it["result"] == "one-serial")} if _is_compared(it) else {}),
     "serial": ("Serial of the SOA record", _sides("serials")),
     "records": ("Records of the zone", _sides("records")),
     "transferred": ("1 if the zone was transferred", lambda it: {"": int(it["transferred"])} if _is_compared(it) else {}),

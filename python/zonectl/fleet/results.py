@@ -56,8 +56,8 @@ class Results:
         zones = len({it["zone"] for it in self.pairs})
         return (
             f"{counted(zones, 'zone')} on {counted(len(self.servers), 'server')}: {counts['same']} same ({spared} not transferred), "
-            f"{counts['one-serial'] + counts['different']} different ({counts['one-serial']} under one serial), {counts['refused']} refused, "
-            f"{counts['not-compared']} not compared; {duration(self.seconds)}")
+            f"{counts['one-serial'] + counts['different']} different ({counts['one-serial']} under one serial), "
+            f"{counts['refused']} refused, {counts['not-compared']} not compared; {duration(self.seconds)}")
 
     def differences(self) -> Iterator[str]:
         """Yields the text of each pair that differs."""
@@ -128,7 +128,8 @@ def merged(paths: list[str]) -> Results:
     found.pairs.sort(key=lambda it: (it["zone"], order.get(it["server"], 0)))
     for part in range(1, found.parts + 1):
         if part not in parts:
-            found.pairs += [failed(pair_of(f"part {part}/{found.parts}", it), Status.UNDONE, "its results are missing") for it in found.servers]
+            missing = f"part {part}/{found.parts}"
+            found.pairs += [failed(pair_of(missing, it), Status.UNDONE, "its results are missing") for it in found.servers]
     found.part = found.parts = 1
     return found
 

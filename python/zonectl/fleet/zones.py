@@ -110,7 +110,8 @@ def at(pattern: str, name: str) -> str:
 
 def digest(zones: list[Zone]) -> str:
     """Returns the digest of a list of zones."""
-    return hashlib.sha256("\n".join(f"{it.name} {it.source.text if it.source else ''}" for it in zones).encode("utf-8", "replace")).hexdigest()
+    lines = "\n".join(f"{it.name} {it.source.text if it.source else ''}" for it in zones)
+    return hashlib.sha256(lines.encode("utf-8", "replace")).hexdigest()
 
 
 def part(text: str) -> tuple[int, int]:
