@@ -43,8 +43,8 @@ class Query:
 
     zone: bytes  # in wire format
     class_number: int = 1
-    kind: int = AXFR
     ident: bytes = field(default_factory=lambda: struct.pack("!H", secrets.randbelow(65536)))
+    kind: int = AXFR
 
     def message(self) -> bytes:
         """Returns the message."""

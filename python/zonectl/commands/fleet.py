@@ -148,10 +148,10 @@ def told(found: Results, given: argparse.Namespace, output: Output, path: str | 
     from ..fleet.page import page
 
     status, text, last = found.status, "".join(found.differences()), f"{found.summary()}\n"
+    for name, make in ((given.html, page), (given.metrics, metrics)):  # first, since nobody may read the text
+        if name and not _tried(output, lambda: output.result(make(found), name)):
+            status = int(Status.UNDONE)
     if not path:
         output.answer(coloured(text) if output.has_colours else text, status)
     found.tell(output, given.verbose)
-    for name, make in ((given.html, page), (given.metrics, metrics)):
-        if name and not _tried(output, lambda: output.result(make(found), name)):
-            status = int(Status.UNDONE)
     return output.answer(text + last if path else last, status, path)

@@ -147,7 +147,7 @@ class Session:
 
     def soa(self, zone: str, key: Key | None, clock: Clock) -> list[str] | None:
         """Returns the SOA record as the fields of its canonical line; None where anything is wrong with the answer."""
-        query = Query(wire_name(zone), self.server.rdclass, SOA)
+        query = Query(wire_name(zone), self.server.rdclass, kind=SOA)
 
         def work(connection: Connection) -> list[str] | None:
             signatures = Signatures(key) if key else None
