@@ -183,14 +183,10 @@ def _change_ttl(it: RRset, sides: Sides) -> None:
     it.added = [line for key, line in data[1].items() if key not in data[0]]
 
 
-def presented(lines: Iterable[bytes]) -> list[Row]:
-    """Returns TTL, type and RDATA of canonical lines, all types in presentation format."""
-    return [(ttl, kind, data) for _, ttl, _, kind, data in engine.presented(b"".join(it + b"\n" for it in lines))]
-
-
 def _present(rrsets: list[RRset]) -> None:
     """Puts RRsets in presentation format, by one call for all."""
-    rows = iter(presented(line for it in rrsets for line in (it.sample, *it.removed, *it.added)))
+    lines = b"".join(line + b"\n" for it in rrsets for line in (it.sample, *it.removed, *it.added))
+    rows = ((ttl, kind, data) for _, ttl, _, kind, data in engine.presented(lines))
     for it in rrsets:
         _, it.shown, data = next(rows)
         it.gone, it.come = [next(rows) for _ in it.removed], [next(rows) for _ in it.added]

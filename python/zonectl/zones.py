@@ -60,7 +60,7 @@ class Reader:
         if it.has_mark:
             self.warn(source.text, "a byte order mark is skipped, for which servers refuse the file")
         name = self.origin_of(source, it.octets, fallback)
-        return self.under(source, engine.of_file(it.octets, name), name)
+        return self.under(source, engine.canonical(it.octets, name), name)
 
     def under(self, source: Source, text: bytes, name: str) -> Copy:
         """Returns the canonical text of a file as a copy. Its apex has to be the origin, if that wasn't given. Raises Undone."""
@@ -94,7 +94,7 @@ class Reader:
     def _transferred(self, source: Source, octets: bytes) -> Copy:
         """Returns a transfer. One with a type that the engine doesn't read in transfers (F33) is decoded here."""
         try:
-            return Copy(source.text, engine.of_transfer(octets), is_transfer=True)
+            return Copy(source.text, engine.canonical(octets), is_transfer=True)
         except Refusal as refusal:
             if refusal.fault != engine.COMPRESSIBLE:
                 raise
@@ -104,7 +104,7 @@ class Reader:
             if not found:
                 raise
         try:
-            text = engine.of_file(found.text, ".")
+            text = engine.canonical(found.text, ".")
         except Refusal as refusal:
             refusal.line = None  # that of a text that nobody sees
             raise
