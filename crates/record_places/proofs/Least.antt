@@ -1,5 +1,5 @@
 -- The line of the entry that first states a record is one, and the least.
-use Rattle.zone_set.proofs.Common.{◌≡◌, ℕ, zero, ◌+◌, ◌≤◌, ◌∙◌, ◌++◌, ◌∷◌, ◌==◌, ◌↔◌, AllByRecursion, AllByRecursion-back, Has, List, Placed, Record, [], ap, ap₂, append_assoc, arith, records_of, refl, subst, sym, ⊤}
+use Rattle.zone_set.proofs.Common.{◌≡◌, ℕ, ◌+◌, ◌≤◌, ◌∙◌, ◌++◌, ◌∷◌, ◌==◌, AllByRecursion, AllByRecursion-back, Has, List, Placed, Record, [], ap, ap₂, append_assoc, arith, records_of, refl, subst, sym, ⊤}
 use Rattle.std.specs.Prelude.{count_by}
 use Rattle.zone_engine.proofs.Refusals.Parting.{Has-part, Partings, first, same, second, two_partings}
 use Rattle.zone_name.specs.Common.{Labels}

@@ -1,4 +1,4 @@
-use Rattle.std.proofs.Common.{◌≡◌, subst, sym}
+use Rattle.std.proofs.Common.{◌≡◌, subst}
 use Rattle.zone_name.specs.Name.{folded}
 use Rattle.record_places.specs.FirstLines.{EachFirstOn}
 use Rattle.record_places.proofs.Least.{one_list}
