@@ -4,9 +4,9 @@ from dataclasses import dataclass
 from functools import partial
 from pathlib import Path
 
-from machine import Machine, labels_of, raw_items, record, text, touching_items, truth, zone
+from machine import Machine, labels_of, raw_items, record, text, tokens_in, touching_items, truth, zone
 from steps import settled
-from values import Made, Value, front_of, octets_of
+from values import Made, Value, front_of, list_of, octets_of
 
 FOLDER = Path(__file__).resolve().parent / "examples"
 DATA, PRINTED, TABLE = "type_data.specs.Data", "type_data.specs.PrintedData", "type_data.specs.Table"
@@ -122,6 +122,31 @@ def records() -> Iterator[Example]:
         yield Example(f"the line {shown} ({section})", partial(has_line, shown, int(kind), octets))
 
 
+# ---- master files
+
+TEXT = "zone_text.specs"
+
+
+def states_lines(origin: str, file: str, lines: list[str], machine: Machine) -> bool:
+    """The file is cut into tokens, and its entries state the records of these lines."""
+    tokens = tokens_in(file)
+    if not machine.holds(f"{TEXT}.Tokens.Cuts", text(file), tokens):
+        return False
+    entries = machine.of(f"{TEXT}.Entries.entries_of", tokens)
+    stated = machine.found(f"{TEXT}.File.EntriesState", labels_of(origin), list_of([]), entries)
+    if len(stated) != 1:
+        return False
+    records = [placed.parts["rr"] for placed in front_of(stated[0])[0]]
+    return [machine.octets("zone_print.specs.Canonical.line", record).decode() for record in records] == lines
+
+
+def files() -> Iterator[Example]:
+    for line in lines_of("files.txt"):
+        origin, file, lines = line.split(" | ")
+        wanted = [f"{one}\n" for one in lines.split(" // ")]
+        yield Example(f"the file {file}", partial(states_lines, origin, file.replace("\\n", "\n"), wanted))
+
+
 def order() -> Iterator[Example]:
     """Names in the order of RFC 4034 6.1, each before all that follow it."""
     names = lines_of("order.txt")
@@ -209,4 +234,4 @@ def generations() -> Iterator[Example]:
 
 
 def every() -> list[Example]:
-    return [*order(), *records(), *further_types(), *digests(), *generations()]
+    return [*order(), *records(), *files(), *further_types(), *digests(), *generations()]

@@ -1,5 +1,6 @@
 """Definitions by their names, applied to octets, texts and records as Python has them."""
 import multiprocessing
+import re
 from collections.abc import Callable, Iterator, Sequence
 from contextlib import contextmanager
 from typing import TypeVar
@@ -9,7 +10,9 @@ from solver import Solver
 from steps import settled
 from values import Fields, Made, Refused, Unknown, Value, front_of, list_of, octets_of, shown, take_back
 
-ITEM = "zone_rdata.specs.Item"
+ITEM, SPELLING, TOKENS = "zone_rdata.specs.Item", "zone_name.specs.Spelling", "zone_text.specs.Tokens"
+TOKEN = re.compile(r'(?P<blank>[ \t\r])|(?P<opening>\()|(?P<closing>\))|(?P<line_feed>\n)|(?P<comment>;[^\n]*)'
+                   r'|(?P<quoted>"(?:\\.|[^"\\])*")|(?P<bare>(?:\\.|[^\s"();\\])+)')
 FAR = 200_000
 T = TypeVar("T")
 
@@ -21,6 +24,8 @@ def refused_in(name: str) -> Iterator[None]:
         yield
     except Refused as e:
         raise Refused(f"{name}: {e}") from e
+    except RecursionError as e:
+        raise Refused(f"{name}: something that rests on itself") from e
 
 
 class Machine:
@@ -111,6 +116,29 @@ def items_in(line: str) -> list[tuple[str, str, bool]]:
         found.append(("quoted" if quoted else "bare", line[begin:at], touches))
         at += quoted
     return found
+
+
+def units_in(inside: str) -> Value:
+    """The octets of an item as they are written: by themselves, or by escapes."""
+    found = []
+    at = 0
+    while at < len(inside):
+        size = 1 if inside[at] != "\\" else 4 if inside[at + 1:at + 4].isdigit() else 2
+        kind = {1: "plain", 2: "escaped", 4: "decimal"}[size]
+        found.append(Made(f"{SPELLING}.{kind}", tuple(ord(c) for c in inside[at:at + size][size > 1:])))
+        at += size
+    return list_of(found)
+
+
+def tokens_in(file: str) -> Value:
+    """The tokens of a master file."""
+    found = []
+    for part in TOKEN.finditer(file):
+        kind, inside = str(part.lastgroup), part.group()
+        given = {"blank": lambda: (ord(inside),), "comment": lambda: (text(inside[1:]),), "bare": lambda: (units_in(inside),),
+                 "quoted": lambda: (units_in(inside[1:-1]),)}.get(kind, tuple)()
+        found.append(Made(f"{TOKENS}.{kind}", tuple(given)))
+    return list_of(found)
 
 
 def raw_items(line: str) -> Value:

@@ -61,7 +61,7 @@ class Solver(Steps):
 
     def case(self, d: Definition, case: tuple[str, Any], given: Sequence[Value]) -> list[Goal]:
         """What has to hold so that data is made by one of its cases."""
-        names = dict(zip(d.shape.parameters, given))
+        names = self.parameters(d, given)
         goals: list[Goal] = []
         tree = case[1]
         while tree[0] == "all" or tree[0] == "apply" and tree[1] == ("name", "→"):

@@ -140,10 +140,19 @@ class Steps:
         return goals, names
 
     def fields(self, d: Definition, given: Sequence[Value]) -> list[Goal]:
-        goals, _ = self.binders(d.shape.fields, dict(zip(d.shape.parameters, given)), d.scope)
+        goals, _ = self.binders(d.shape.fields, self.parameters(d, given), d.scope)
         for goal in goals:
             goal.where = goal.where or d.whole
         return goals
+
+    def parameters(self, d: Definition, given: Sequence[Value]) -> dict[str, Value]:
+        """What the parameters of a definition are; of what isn't known it is known now of which kind it is."""
+        names = dict(zip(d.shape.parameters, given))
+        for name, tree in zip(d.shape.parameters, d.shape.types):
+            known = shown(names.get(name))
+            if isinstance(known, Unknown) and known.kind is None:
+                known.kind = self.eval.value(tree, names, d.scope)
+        return names
 
     # ---- for all
 

@@ -1,5 +1,5 @@
 -- The octets of prefixes and of a location have one list of items.
-use Rattle.std.proofs.Common.{◌≡◌, ◌≤◌, ◌<◌, ◌+◌, ◌*◌, ◌^◌, ◌++◌, ℕ, List, [], ◌∷◌, Bool, true, false, length, replicate, refl, sym, ap, ◌∙◌, subst, arith, length-append}
+use Rattle.std.proofs.Common.{◌≡◌, ◌≤◌, ◌<◌, ◌+◌, ◌^◌, ◌++◌, ℕ, List, [], ◌∷◌, Bool, true, false, length, replicate, refl, sym, ap, ◌∙◌, subst, arith, length-append}
 use Rattle.std.proofs.lemmas.Bool.Decides.{nat_tests}
 use Rattle.std.proofs.lemmas.List.{length-replicate}
 use Rattle.std.proofs.lemmas.Nat.{from_be_bytes-to_be_bytes_2, from_be_bytes-to_be_bytes_4}
@@ -7,7 +7,7 @@ use Rattle.std.specs.Int.{from_be_bytes, to_be_bytes, w16, w32}
 use Rattle.zone_rdata.proofs.Octets.Sent.{append_same}
 use Rattle.zone_rdata.specs.Item.{RawItem, bare, quoted}
 use Rattle.type_data.specs.Kinds.Gateway.{StatesNothing}
-use Rattle.type_data.specs.Kinds.Location.{IsPlace, PrintsLocation, location_items, location_octets}
+use Rattle.type_data.specs.Kinds.Location.{IsPlace, PrintsLocation, angle_at, location_items, location_octets}
 use Rattle.type_data.specs.Kinds.Prefixes.{IsAddress, IsPrefixOctets, IsTrimmed, PrintsPrefix, PrintsPrefixItem, PrintsPrefixes, family_of, octets_of, prefix_text, sign}
 use Rattle.type_data.specs.declared.kinds.location.Location.{Location}
 use Rattle.type_data.specs.declared.kinds.location.place.Axis.TheVariants.{Latitude, Longitude}
@@ -60,6 +60,9 @@ address_once (Ipv4 x) (Ipv6 y) part is too e p q = absurd (omega (arith, e))
 address_once (Ipv6 x) (Ipv4 y) part is too e p q = absurd (omega (arith, e))
 address_once (Ipv6 x) (Ipv6 y) part is too e p q = ap Ipv6 (trimmed_once x y part (is.0 ∙ sym too.0) p q)
 
+same_two : (a b c d : ℕ) (x y : List ℕ) → a ∷ b ∷ x ≡ c ∷ d ∷ y → (a ≡ c) × (b ≡ d) × (x ≡ y)
+same_two a b c d x y same = (cc, cc, cc)
+
 record AreSamePrefix (p q : Prefix) : Type 0 where
   pub negated : p.negated ≡ q.negated
   pub address : p.address ≡ q.address
@@ -76,13 +79,11 @@ prefix_once : (p q : Prefix) (octets other x y : List ℕ) → IsAddress p.addre
 prefix_once p q octets other x y is too these those e =
     let fronts : to_be_bytes w16 (family_of p.address) ++ (header p these.part ++ x) ≡ to_be_bytes w16 (family_of q.address) ++ (header q those.part ++ y) = sym (ap (λ o. o ++ x) these.value) ∙ e ∙ ap (λ o. o ++ y) those.value in
     let family = two (family_of p.address) (family_of q.address) (header p these.part ++ x) (header q those.part ++ y) (small_family p.address) (small_family q.address) fronts in
-    let bits : p.bits ≡ q.bits = cc (family.1) in
-    let counts : sign p.negated + length these.part ≡ sign q.negated + length those.part = cc (family.1) in
-    let behind : these.part ++ x ≡ those.part ++ y = cc (family.1) in
-    let signs = sign_once p.negated q.negated (length these.part) (length those.part) (small_part p.address these.part is these.trimmed) (small_part q.address those.part too those.trimmed) counts in
-    let parts = append_same these.part those.part x y signs.1 behind in
+    let after = same_two p.bits (sign p.negated + length these.part) q.bits (sign q.negated + length those.part) (these.part ++ x) (those.part ++ y) family.1 in
+    let signs = sign_once p.negated q.negated (length these.part) (length those.part) (small_part p.address these.part is these.trimmed) (small_part q.address those.part too those.trimmed) after.1 in
+    let parts = append_same these.part those.part x y signs.1 after.2 in
     let trimmed : IsTrimmed (octets_of q.address) these.part = subst (IsTrimmed (octets_of q.address)) (sym parts.0) those.trimmed in
-    (record { negated = signs.0; address = address_once p.address q.address these.part is too family.0 these.trimmed trimmed; bits = bits }, parts.1)
+    (record { negated = signs.0; address = address_once p.address q.address these.part is too family.0 these.trimmed trimmed; bits = after.0 }, parts.1)
 
 item_once : (item other : RawItem) (octets others x y : List ℕ) → PrintsPrefixItem item octets → PrintsPrefixItem other others → octets ++ x ≡ others ++ y → (item ≡ other) × (x ≡ y)
 item_once (bare text) (bare word) octets others x y p q e =
@@ -93,7 +94,8 @@ item_once (quoted text) other octets others x y p q e = absurd p
 
 some_octets : (item : RawItem) (octets x : List ℕ) → PrintsPrefixItem item octets → [] ≡ octets ++ x → ⊥
 some_octets (bare text) octets x p e =
-    let size : length octets ≡ 4 + length p.value.part = ap length p.value.value in
+    let whole = ap length p.value.value in
+    let size : length octets ≡ 4 + length p.value.part = omega (arith, whole) in
     omega (arith, size, ap length e, length-append octets x)
 some_octets (quoted text) octets x p e = p
 
@@ -109,13 +111,16 @@ prefixes octets (item ∷ items) (other ∷ others) p q =
 -- ---- a location
 
 latitude_small : (n : ℕ) → IsPlace Latitude n → n < 2 ^ 32
-latitude_small n is = grind (arith, nat_tests, is)
+latitude_small n is = let few : angle_at n ≤ 324000000 = is in grind (arith, nat_tests, few)
 
 longitude_small : (n : ℕ) → IsPlace Longitude n → n < 2 ^ 32
-longitude_small n is = grind (arith, nat_tests, is)
+longitude_small n is = let few : angle_at n ≤ 648000000 = is in grind (arith, nat_tests, few)
 
 abbrev places_of : Location → List ℕ
 places_of l = to_be_bytes w32 l.latitude ++ (to_be_bytes w32 l.longitude ++ to_be_bytes w32 l.altitude)
+
+same_four : (a b c d e f g h : ℕ) (x y : List ℕ) → a ∷ b ∷ c ∷ d ∷ x ≡ e ∷ f ∷ g ∷ h ∷ y → (b ≡ f) × (c ≡ g) × (d ≡ h) × (x ≡ y)
+same_four a b c d e f g h x y same = (cc, cc, cc, cc)
 
 record AreSameLocation (l m : Location) : Type 0 where
   pub size : l.size ≡ m.size
@@ -131,11 +136,8 @@ same_items l m same = cc (same.size, same.horizontal, same.vertical, same.latitu
 pub location : (octets : List ℕ) (items others : List RawItem) → PrintsLocation items octets → PrintsLocation others octets → items ≡ others
 location octets items others (l, on, are, made) (m, too, these, makes) =
     let e : location_octets l ≡ location_octets m = sym made ∙ makes in
-    let size : l.size ≡ m.size = cc e in
-    let horizontal : l.horizontal ≡ m.horizontal = cc e in
-    let vertical : l.vertical ≡ m.vertical = cc e in
-    let places : places_of l ≡ places_of m = cc e in
-    let north = four l.latitude m.latitude _ _ (latitude_small l.latitude on.latitude) (latitude_small m.latitude too.latitude) places in
+    let front = same_four 0 l.size l.horizontal l.vertical 0 m.size m.horizontal m.vertical (places_of l) (places_of m) e in
+    let north = four l.latitude m.latitude _ _ (latitude_small l.latitude on.latitude) (latitude_small m.latitude too.latitude) front.3 in
     let east = four l.longitude m.longitude _ _ (longitude_small l.longitude on.longitude) (longitude_small m.longitude too.longitude) north.1 in
     let up : l.altitude ≡ m.altitude = sym (from_be_bytes-to_be_bytes_4 l.altitude on.altitude) ∙ ap (from_be_bytes w32) east.1 ∙ from_be_bytes-to_be_bytes_4 m.altitude too.altitude in
-    are ∙ same_items l m (record { size = size; horizontal = horizontal; vertical = vertical; latitude = north.0; longitude = east.0; altitude = up }) ∙ sym these
+    are ∙ same_items l m (record { size = front.0; horizontal = front.1; vertical = front.2; latitude = north.0; longitude = east.0; altitude = up }) ∙ sym these
