@@ -26,6 +26,11 @@ pub no_values : (count step value : ℕ) → count ≡ 0 → values_from count s
 unfolding values_from
 no_values count step value none = ap (λ k. values_from k step value) none
 
+pub counted_values : (count step value : ℕ) → length (values_from count step value) ≡ count
+unfolding values_from
+counted_values zero step value = refl
+counted_values (suc count) step value = ap suc (counted_values count step (value + step))
+
 mul_more : (k step : ℕ) → k * step + step ≡ suc k * step
 mul_more k step = omega arith
 

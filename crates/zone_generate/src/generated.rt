@@ -230,6 +230,13 @@ impl Generated {
         })
     }
 
+    /// How many lines are still to come, if the templates say something for each value.
+    pub fn lines_left(&self) -> u64
+        ensures { result ≡ length self.now.values }
+    {
+        self.left.count
+    }
+
     /// The owner of the last line, as its template says it for the last value. `None`: it says nothing
     /// for it, or there are no more values.
     ///
