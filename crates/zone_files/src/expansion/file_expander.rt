@@ -2,6 +2,7 @@
 ghost use Rattle.std.specs.Prelude.{◌≡◌, ◌++◌, ◌⊎◌, ◌≤◌, ℕ, suc, [], None, Some, IfNone, IfOk, IfSome, OnErr, OnOk, option_map};
 ghost use Rattle.zone_files.specs.Expansion.{at_first, no_files, within};
 ghost use Rattle.zone_files.specs.FileExpander.{AddsWithin, Feeds, HasFewerLines, IsOver, NamedFile, StandsFor, TakesIncluded, WritesFor, lines_left};
+ghost use Rattle.zone_files.specs.Turns.{EndsFile, GoesAfterLines, TakesSome};
 ghost use Rattle.zone_generate.specs.Entry.{Generation};
 ghost use Rattle.zone_generate.specs.Range.{values_from};
 ghost use Rattle.zone_files.specs.declared.expansion.progress.FileStatus.TheVariants.{Generating, Going, Including, Failed};
@@ -71,6 +72,7 @@ impl FileExpander {
         ensures feeds { IfOk result (λ left.
             Feeds self.old piece.now left.now self.new out.old.items out.new.items) }
         ensures all { IfOk result (λ left. (left.now ≡ []) ⊎ IsOver self.new.status) }
+        ensures some { IfOk result (λ left. TakesSome self.old.status piece.now left.now) }
         ensures failed { OnErr result (self.new.status ≡ Failed) }
     {
         match self.expansion.feed(piece, out) {
@@ -91,6 +93,7 @@ impl FileExpander {
         ensures writes { OnOk result
             (WritesFor self.old [] self.new out.old.items out.new.items) }
         ensures ended { OnOk result (IsOver self.new.status) }
+        ensures last { OnOk result (EndsFile self.old self.new) }
         ensures failed { OnErr result (self.new.status ≡ Failed) }
     {
         match self.expansion.finish(out) {
@@ -186,6 +189,8 @@ impl FileExpander {
             (self.old.status ≡ Generating → HasFewerLines self.old self.new) }
         ensures within { OnOk result
             (AddsWithin self.old.generated out.old.items out.new.items) }
+        ensures after { OnOk result
+            (self.old.status ≡ Generating → GoesAfterLines self.old self.new) }
         ensures failed { OnErr result (self.new.status ≡ Failed) }
     {
         match self.expansion.generate(out) {
@@ -208,6 +213,24 @@ impl FileExpander {
             Some(lines) => lines.next_value(),
             None => None,
         }
+    }
+
+    /// How many lines come first, if the templates say something for each value: none where no
+    /// `$GENERATE` was met.
+    pub(crate) fn lines_left(&self) -> u64
+        ensures { result ≡ lines_left self.now.generated }
+    {
+        match &self.expansion.progress.generated {
+            Some(lines) => lines.lines_left(),
+            None => 0,
+        }
+    }
+
+    /// How many files were included so far.
+    pub(crate) fn included_files(&self) -> u64
+        ensures { result ≡ self.now.holds.opened }
+    {
+        self.expansion.progress.holding.opened
     }
 
     /// How far the expansion of the file has come.
