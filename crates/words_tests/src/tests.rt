@@ -2,6 +2,7 @@
 mod expanded_texts;
 mod include_stacks;
 mod included_files;
+mod placed_records;
 mod presentation_files;
 mod rewriting;
 mod words_runs;

@@ -9,8 +9,8 @@ use Rattle.zone_rdata.specs.declared.fault.Stop.TheVariants as stop
 use Rattle.zone_set.specs.Zone.{Zone}
 use Rattle.zone_engine.specs.Refusal.{IfRefused}
 use Rattle.zone_words.specs.Refusal.{refused_of}
-use Rattle.zone_files.specs.Expansion.{Holds, at_first}
-use Rattle.zone_files.specs.ExpandedLoader.{ExpandedState, FilesDenote, IsFaultlessTo, IsReportedOn, LoadsEnd, LoadsInnermost, RefusesFor, ReportsText, StandsForExpanded, fault_of, judged, judged_by, stopped}
+use Rattle.zone_files.specs.Expansion.{Holds, first_without}
+use Rattle.zone_files.specs.ExpandedLoader.{ExpandedState, FilesDenoteWithout, IsFaultlessTo, IsReportedOn, LoadsEnd, LoadsInnermost, RefusesFor, ReportsText, StandsForExpanded, fault_of, judged, judged_by, stopped}
 use Rattle.zone_files.specs.FileExpander.{ExpanderState}
 use Rattle.zone_files.specs.IncludeStack.{BeginsInner, EndsInnermost, FedFiles, FeedsInnermost, MakesLines, StackState, StandsForFiles, WritesForFiles, fed_ended, fed_inner, fed_more, main_alone, main_file}
 use Rattle.zone_files.specs.Loading.Fed.{LoadingState, StandsForPresentation}
@@ -67,18 +67,18 @@ loads_inner old new begins same origin first fed st = record {
 
 -- ---- what is denoted
 
-module _ (stack : StackState) (loader : LoadingState) (z : Zone) (denotes : DenotesLoaded loader z) (directory : Option (List ℕ)) (name : List ℕ) (origin : Labels) (fed : FedFiles) (text : List ℕ) (st : StandsForFiles stack (at_first directory name origin) fed text) (loads : StandsForPresentation origin loader text) where
-  pub ended_denotes : stack.innermost.status ≡ statuses.Ended → stack.outer ≡ [] → FilesDenote directory name origin (main_file fed).octets (main_file fed).files z
-  ended_denotes is none = record { text = text; ending = _; expanded = ended_text directory name origin stack fed text st is none; denotes = denotes origin text loads }
+module _ (stack : StackState) (loader : LoadingState) (z : Zone) (denotes : DenotesLoaded loader z) (lines : List ℕ) (directory : Option (List ℕ)) (name : List ℕ) (origin : Labels) (fed : FedFiles) (text : List ℕ) (st : StandsForFiles stack (first_without lines directory name origin) fed text) (loads : StandsForPresentation origin loader text) where
+  pub ended_denotes : stack.innermost.status ≡ statuses.Ended → stack.outer ≡ [] → FilesDenoteWithout lines directory name origin (main_file fed).octets (main_file fed).files z
+  ended_denotes is none = record { text = text; ending = _; expanded = ended_text lines directory name origin stack fed text st is none; denotes = denotes origin text loads }
 
-  pub broken_denotes : stack.innermost.status ≡ statuses.BrokenOff → FilesDenote directory name origin (main_file fed).octets (main_file fed).files z
-  broken_denotes is = record { text = text; ending = _; expanded = broken_text directory name origin stack fed text st is; denotes = denotes origin text loads }
+  pub broken_denotes : stack.innermost.status ≡ statuses.BrokenOff → FilesDenoteWithout lines directory name origin (main_file fed).octets (main_file fed).files z
+  broken_denotes is = record { text = text; ending = _; expanded = broken_text lines directory name origin stack fed text st is; denotes = denotes origin text loads }
 
-  pub faulty_denotes : (fault : ExpansionFault) → stack.innermost.status ≡ statuses.Faulty fault → FilesDenote directory name origin (main_file fed).octets (main_file fed).files z
-  faulty_denotes fault is = record { text = text; ending = _; expanded = faulty_text directory name origin stack fed text st fault is; denotes = denotes origin text loads }
+  pub faulty_denotes : (fault : ExpansionFault) → stack.innermost.status ≡ statuses.Faulty fault → FilesDenoteWithout lines directory name origin (main_file fed).octets (main_file fed).files z
+  faulty_denotes fault is = record { text = text; ending = _; expanded = faulty_text lines directory name origin stack fed text st fault is; denotes = denotes origin text loads }
 
-  pub lacking_denotes : (value : ℕ) → stack.innermost.status ≡ statuses.FaultyAt value → FilesDenote directory name origin (main_file fed).octets (main_file fed).files z
-  lacking_denotes value is = record { text = text; ending = _; expanded = lacking_text directory name origin stack fed text st value is; denotes = denotes origin text loads }
+  pub lacking_denotes : (value : ℕ) → stack.innermost.status ≡ statuses.FaultyAt value → FilesDenoteWithout lines directory name origin (main_file fed).octets (main_file fed).files z
+  lacking_denotes value is = record { text = text; ending = _; expanded = lacking_text lines directory name origin stack fed text st value is; denotes = denotes origin text loads }
 
 -- ---- why it is refused
 

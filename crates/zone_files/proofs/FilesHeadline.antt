@@ -1,25 +1,25 @@
 -- The headline for main files with the files that they include: that of their expanded texts.
-use Rattle.std.proofs.Common.{◌≡◌, ◌↔◌, ◌<◌, ◌≤◌, ℕ, List, Option, length, subst, sym, ap, arith, ◌∙◌}
+use Rattle.std.proofs.Common.{◌≡◌, ◌↔◌, ◌<◌, ◌≤◌, ℕ, List, [], Option, length, subst, sym, ap, arith, ◌∙◌}
 use Rattle.zone_name.specs.Common.{AtMostOneIs, Labels, NothingIs}
 use Rattle.zone_rdata.specs.declared.fault.Fault.{Fault}
 use Rattle.zone_rdata.specs.declared.fault.Place.{Place}
 use Rattle.zone_set.specs.Zone.{Zone}
 use Rattle.zone_print.specs.Canonical.{canon, text_limit}
 use Rattle.zone_words.specs.Rewriting.{Refused}
-use Rattle.zone_files.specs.Expansion.{Ending, Files, IsExpanded}
+use Rattle.zone_files.specs.Expansion.{Ending, Files, IsExpandedWithout}
 use Rattle.zone_files.specs.FileTree.{AreOneZoneOfTrees, FileTree, HasExpandedText, IsTree, TreeDenotes}
 use Rattle.zone_files.specs.Loading.Reading.{IsReportedSource}
 use Rattle.zone_files.specs.Loading.Report.{IsReported}
 use Rattle.zone_files.specs.Presentation.{AreOneZone, IsRefusedSource, IsSource, PresentationDenotes, Source, SourceDenotes, master_file}
 
 abbrev pub OneText : Type 0
-OneText = (directory : Option (List ℕ)) (name : List ℕ) (origin : Labels) (octets : List ℕ) (files : Files) (a b : List ℕ) (ending last : Ending)
-    → IsExpanded directory name origin octets files a ending → IsExpanded directory name origin octets files b last → (a ≡ b) × (ending ≡ last)
+OneText = (lines : List ℕ) (directory : Option (List ℕ)) (name : List ℕ) (origin : Labels) (octets : List ℕ) (files : Files) (a b : List ℕ) (ending last : Ending)
+    → IsExpandedWithout lines directory name origin octets files a ending → IsExpandedWithout lines directory name origin octets files b last → (a ≡ b) × (ending ≡ last)
 
 module _ (once : OneText) where
   denotes_text : (t : FileTree) (text : List ℕ) (z : Zone) → HasExpandedText t text → TreeDenotes t z → PresentationDenotes t.origin text z
   denotes_text t text z (ending, expanded) d =
-      let same = once t.directory t.name t.origin t.octets t.files d.denotes.text text d.denotes.ending ending d.denotes.expanded expanded in
+      let same = once [] t.directory t.name t.origin t.octets t.files d.denotes.text text d.denotes.ending ending d.denotes.expanded expanded in
       subst (λ x. PresentationDenotes t.origin x z) same.0 d.denotes.denotes
 
   source_is : (t : FileTree) (z : Zone) → IsTree t → (d : TreeDenotes t z) → IsSource (master_file t.origin d.denotes.text)

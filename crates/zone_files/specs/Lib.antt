@@ -6,6 +6,7 @@ pub mod FileName
 pub mod FileNameRefusal
 pub mod Places
 pub mod FaultLine
+pub mod PlacedLine
 pub mod Machine
 pub mod Expansion
 pub mod FileExpander

@@ -22,14 +22,14 @@ values_more count step value some =
     let e : count ≡ suc (count - 1) = omega arith in
     ap (λ k. values_from k step value) e
 
+pub values_count : (count step value : ℕ) → count ≡ length (values_from count step value)
+unfolding values_from
+values_count zero step value = refl
+values_count (suc count) step value = ap suc (values_count count step (value + step))
+
 pub no_values : (count step value : ℕ) → count ≡ 0 → values_from count step value ≡ []
 unfolding values_from
 no_values count step value none = ap (λ k. values_from k step value) none
-
-pub counted_values : (count step value : ℕ) → length (values_from count step value) ≡ count
-unfolding values_from
-counted_values zero step value = refl
-counted_values (suc count) step value = ap suc (counted_values count step (value + step))
 
 mul_more : (k step : ℕ) → k * step + step ≡ suc k * step
 mul_more k step = omega arith

@@ -230,8 +230,8 @@ impl Generated {
         })
     }
 
-    /// How many lines are still to come, if the templates say something for each value.
-    pub fn lines_left(&self) -> u64
+    /// For how many values lines are still to come.
+    pub fn values_left(&self) -> u64
         ensures { result ≡ length self.now.values }
     {
         self.left.count

@@ -343,7 +343,6 @@ fn lines_are_appended_by_the_part(rt: HostRuntime) -> Result<(), Fail> {
     check_octets("two lines", &out, b"h1 A 192.0.2.1\nh3 A 192.0.2.3\n")?;
     let next = NextValue { value: 5, step: 2 };
     check_same("the next value", generated.next_value(), Some(next))?;
-    check_same("one line", generated.lines_left(), 1)?;
     let state = generated.next_lines(1000, &mut out)?;
     check_same("no more come", state, LinesState::AtEnd)?;
     check_octets(

@@ -1,6 +1,6 @@
 //! A file that is expanded while it is read, with those that it includes.
 ghost use Rattle.std.specs.Prelude.{◌≡◌, ◌++◌, ◌⊎◌, ◌≤◌, ℕ, suc, [], None, Some, IfNone, IfOk, IfSome, OnErr, OnOk, option_map};
-ghost use Rattle.zone_files.specs.Expansion.{at_first, no_files, within};
+ghost use Rattle.zone_files.specs.Expansion.{at_first, first_without, no_files, within};
 ghost use Rattle.zone_files.specs.FileExpander.{AddsWithin, Feeds, HasFewerLines, IsOver, NamedFile, StandsFor, TakesIncluded, WritesFor, lines_left};
 ghost use Rattle.zone_files.specs.Turns.{EndsFile, GoesAfterLines, TakesSome};
 ghost use Rattle.zone_generate.specs.Entry.{Generation};
@@ -55,7 +55,30 @@ impl FileExpander {
             [] no_files []) }
         ensures going { IfOk result (λ made. made.status ≡ Going) }
     {
-        let holding = Holding::at_first(alloc, directory, name, origin)?;
+        FileExpander::without(alloc, &[], directory, name, origin)
+    }
+
+    /// An expander of the main file as [`FileExpander::new`] makes it, which takes out the entries of
+    /// these lines of the expanded text, in their order: of such an entry the line feeds stay, and an
+    /// entry after it that omits its owner has the one that it states. A line of a `$GENERATE` takes
+    /// out the whole entry. The lines are those of the expanded text without the entries before.
+    ///
+    /// # Errors
+    ///
+    /// `AllocError`.
+    pub fn without(
+        alloc: Global,
+        lines: &[u64],
+        directory: Option<&str>,
+        name: &str,
+        origin: &CasedName,
+    ) -> Result<FileExpander, AllocError>
+        ensures stands { IfOk result (λ made. StandsFor made (first_without lines.now
+            (option_map (λ folder. folder.now) directory.entry) name.now origin.now)
+            [] no_files []) }
+        ensures going { IfOk result (λ made. made.status ≡ Going) }
+    {
+        let holding = Holding::first_without(alloc, lines, directory, name, origin)?;
         Ok(FileExpander {
             expansion: FileExpansion::new(alloc, holding),
         })
@@ -221,7 +244,7 @@ impl FileExpander {
         ensures { result ≡ lines_left self.now.generated }
     {
         match &self.expansion.progress.generated {
-            Some(lines) => lines.lines_left(),
+            Some(lines) => lines.values_left(),
             None => 0,
         }
     }

@@ -233,7 +233,9 @@ impl FileExpansion {
         match inner.progress.status {
             FileStatus::Ended => {
                 push_origin_line(&self.progress.holding.origin, out)?;
-                self.progress.holding.back(&inner.progress.holding);
+                self.progress
+                    .holding
+                    .back(self.alloc, &inner.progress.holding)?;
                 self.progress.status = end_of(self.progress.last);
                 Ok(())
             }

@@ -1,6 +1,6 @@
 //! The files that are open while a main file is expanded.
 ghost use Rattle.std.specs.Prelude.{◌≡◌, ◌<◌, ◌≤◌, ◌+◌, ◌⊎◌, [], None, true, false, length, option_map, IfOk, OnErr, OnOk};
-ghost use Rattle.zone_files.specs.Expansion.{at_first};
+ghost use Rattle.zone_files.specs.Expansion.{at_first, first_without};
 ghost use Rattle.zone_files.specs.ExpandedLoader.{stopped};
 ghost use Rattle.zone_files.specs.FileExpander.{HasFewerLines, IsOver, lines_left};
 ghost use Rattle.zone_files.specs.IncludeStack.{BeginsInner, EndsInnermost, FeedsInnermost, MakesLines, StandsForFiles, fed_ended, main_alone, stop_line, wanted_name};
@@ -76,9 +76,31 @@ impl IncludeStack {
         ensures going { IfOk result (λ made. made.innermost.status ≡ Going) }
         ensures alone { IfOk result (λ made. made.outer ≡ []) }
     {
+        IncludeStack::without(alloc, &[], directory, name, origin)
+    }
+
+    /// A main file alone, of which the entries of these lines of the expanded text are taken out, as by
+    /// [`FileExpander::without`].
+    ///
+    /// # Errors
+    ///
+    /// `AllocError`.
+    pub fn without(
+        alloc: Global,
+        lines: &[u64],
+        directory: Option<&str>,
+        name: &str,
+        origin: &CasedName,
+    ) -> Result<IncludeStack, AllocError>
+        ensures stands { IfOk result (λ made. StandsForFiles made (first_without lines.now
+            (option_map (λ folder. folder.now) directory.entry) name.now origin.now)
+            main_alone []) }
+        ensures going { IfOk result (λ made. made.innermost.status ≡ Going) }
+        ensures alone { IfOk result (λ made. made.outer ≡ []) }
+    {
         Ok(IncludeStack {
             alloc,
-            innermost: FileExpander::new(alloc, directory, name, origin)?,
+            innermost: FileExpander::without(alloc, lines, directory, name, origin)?,
             outer: Vec::new(alloc),
             lines: LineSources::new(alloc, name)?,
         })

@@ -1,4 +1,4 @@
-use Rattle.std.proofs.Common.{ap, arith, length, refl, subst, sym, ◌∙◌}
+use Rattle.std.proofs.Common.{[], ap, arith, length, refl, subst, sym, ◌∙◌}
 use Rattle.std.proofs.lemmas.List.{nil_from_length}
 use Rattle.zone_files.specs.Expansion.{breaks_off, ends}
 use Rattle.zone_files.specs.ExpandedLoader.{fault_of}
@@ -9,12 +9,12 @@ use Rattle.zone_files.proofs.files.expanded_files.ended.Goals as goal
 pub returns-then-outer_files-eq0-clause-whole : goal.returns-then-outer_files-eq0-clause-whole
 returns-then-outer_files-eq0-clause-whole c =
     λ directory name origin fed text st.
-    (ends c.args.stack.innermost.holds, ended_text directory name origin c.args.stack fed text st (sym c.status.ensures ∙ c.in-Ended.is) (nil_from_length _ (omega (arith, c.outer_files.ensures, c.if-outer_files-eq0.true))), tt)
+    (ends c.args.stack.innermost.holds, ended_text [] directory name origin c.args.stack fed text st (sym c.status.ensures ∙ c.in-Ended.is) (nil_from_length _ (omega (arith, c.outer_files.ensures, c.if-outer_files-eq0.true))), tt)
 
 pub returns-in-BrokenOff-clause-whole : goal.returns-in-BrokenOff-clause-whole
 returns-in-BrokenOff-clause-whole c =
     λ directory name origin fed text st.
-    (breaks_off, broken_text directory name origin c.args.stack fed text st (sym c.status.ensures ∙ c.in-BrokenOff.is), tt)
+    (breaks_off, broken_text [] directory name origin c.args.stack fed text st (sym c.status.ensures ∙ c.in-BrokenOff.is), tt)
 
 pub returns-in-Faulty-clause-stopped : goal.returns-in-Faulty-clause-stopped
 returns-in-Faulty-clause-stopped c ended = (refl, ap fault_of (sym c.status.ensures ∙ c.in-Faulty.is))

@@ -7,25 +7,25 @@ use Rattle.zone_files.proofs.stack.expanded_loader.loaded.Goals as goal
 pub returns-then-outer_files-eq0-clause-zone : goal.returns-then-outer_files-eq0-clause-zone
 returns-then-outer_files-eq0-clause-zone c =
     IfOk-weaker c.whole.result _ _
-    (λ z denotes directory name origin fed text st loads. ended_denotes c.args.stack.now c.args.loader z denotes directory name origin fed text st loads (sym c.status.ensures ∙ c.in-Ended.is) (nil_from_length _ (omega (arith, c.outer_files.ensures, c.if-outer_files-eq0.true))))
+    (λ z denotes lines directory name origin fed text st loads. ended_denotes c.args.stack.now c.args.loader z denotes lines directory name origin fed text st loads (sym c.status.ensures ∙ c.in-Ended.is) (nil_from_length _ (omega (arith, c.outer_files.ensures, c.if-outer_files-eq0.true))))
     c.whole.ensures.zone
 
 pub returns-in-BrokenOff-clause-zone : goal.returns-in-BrokenOff-clause-zone
 returns-in-BrokenOff-clause-zone c =
     IfOk-weaker c.whole-in-BrokenOff.result _ _
-    (λ z denotes directory name origin fed text st loads. broken_denotes c.args.stack.now c.args.loader z denotes directory name origin fed text st loads (sym c.status.ensures ∙ c.in-BrokenOff.is))
+    (λ z denotes lines directory name origin fed text st loads. broken_denotes c.args.stack.now c.args.loader z denotes lines directory name origin fed text st loads (sym c.status.ensures ∙ c.in-BrokenOff.is))
     c.whole-in-BrokenOff.ensures.zone
 
 pub returns-in-Faulty-clause-zone : goal.returns-in-Faulty-clause-zone
 returns-in-Faulty-clause-zone c =
     IfOk-weaker c.faulty.result _ _
-    (λ z denotes directory name origin fed text st loads. faulty_denotes c.args.stack.now c.args.loader z denotes directory name origin fed text st loads c.in-Faulty.fault (sym c.status.ensures ∙ c.in-Faulty.is))
+    (λ z denotes lines directory name origin fed text st loads. faulty_denotes c.args.stack.now c.args.loader z denotes lines directory name origin fed text st loads c.in-Faulty.fault (sym c.status.ensures ∙ c.in-Faulty.is))
     c.faulty.ensures.zone
 
 pub returns-in-FaultyAt-clause-zone : goal.returns-in-FaultyAt-clause-zone
 returns-in-FaultyAt-clause-zone c =
     IfOk-weaker c.faulty-in-FaultyAt.result _ _
-    (λ z denotes directory name origin fed text st loads. lacking_denotes c.args.stack.now c.args.loader z denotes directory name origin fed text st loads c.in-FaultyAt.field-0 (sym c.status.ensures ∙ c.in-FaultyAt.is))
+    (λ z denotes lines directory name origin fed text st loads. lacking_denotes c.args.stack.now c.args.loader z denotes lines directory name origin fed text st loads c.in-FaultyAt.field-0 (sym c.status.ensures ∙ c.in-FaultyAt.is))
     c.faulty-in-FaultyAt.ensures.zone
 
 pub returns-then-outer_files-eq0-clause-accepted : goal.returns-then-outer_files-eq0-clause-accepted
