@@ -63,10 +63,9 @@ StopLineWritten mid after =
     (front : List ℕ) × Appends mid.octets after.octets front
     × (IsStopLine front ⊎ ((rest : List ℕ) × IsStopLine (front ++ rest) × Fails mid after))
 
-module _ {before mid after : Device} (front : List ℕ) (works : WorksOn before mid) where
-  behind_by : IsStopLine front ⊎ ((rest : List ℕ) × IsStopLine (front ++ rest) × Fails mid after) → IsBehind Unread front (Fails before after)
-  behind_by (inl line) = inl line
-  behind_by (inr (rest, line, fails)) = inr (rest, line, λ worked. fails (works worked))
+behind_by : (before mid after : Device) (front : List ℕ) → WorksOn before mid → IsStopLine front ⊎ ((rest : List ℕ) × IsStopLine (front ++ rest) × Fails mid after) → IsBehind Unread front (Fails before after)
+behind_by before mid after front works (inl line) = inl line
+behind_by before mid after front works (inr (rest, line, fails)) = inr (rest, line, λ worked. fails (works worked))
 
 module _ {S F : Type 0} (Opens : S → List ℕ → Option F → S → Type 0) (state : F → Device) (main : F) (directory : Option (List ℕ)) (name : List ℕ) (origin : Labels) (start now : S) (before after : Device) where
   -- a fault has ended the text
@@ -91,7 +90,7 @@ module _ {S F : Type 0} (Opens : S → List ℕ → Option F → S → Type 0) (
     read = read;
     why = tt;
     front = front;
-    behind = behind_by front works behind;
+    behind = behind_by before mid after front works behind;
     written = Appends-trans before.octets mid.octets after.octets text front written more;
   }
 

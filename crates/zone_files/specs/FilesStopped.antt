@@ -19,7 +19,7 @@ use Rattle.zone_files.specs.Reading.{OpenedFile, OpensEach, ReadsPart}
 use Rattle.zone_files.specs.declared.expansion.progress.FileStatus.{FileStatus}
 use Rattle.zone_files.specs.declared.expansion.progress.FileStatus.TheVariants.{BrokenOff, Ended, Faulty, FaultyAt}
 use Rattle.zone_files.specs.declared.files.stop.FilesStop.{FilesStop}
-use Rattle.zone_files.specs.declared.files.stop.FilesStop.TheVariants as files_stops
+use Rattle.zone_files.specs.declared.files.stop.FilesStop.TheVariants as told
 use Rattle.zone_files.specs.declared.stack.expanded_loader.ExpandedRefusal.{ExpandedRefusal}
 use Rattle.zone_files.specs.declared.stack.expanded_loader.ExpandedRefusal.TheVariants.{Expansion, Text, Unread}
 
@@ -97,14 +97,14 @@ pub record RefusesRead {S F : Type 0} (Opens : S → List ℕ → Option F → S
 -- Why files give no zone: they are refused, one or their text is too long, or memory was refused.
 abbrev pub StopsLoading : {S F : Type 0} → (S → List ℕ → Option F → S → Type 0) → (F → Device) → F
     → Option (List ℕ) → List ℕ → Labels → S → S → FilesStop → Type 0
-StopsLoading Opens state main directory name origin old new (files_stops.Files refusal stack) =
+StopsLoading Opens state main directory name origin old new (told.Files refusal stack) =
     RefusesRead Opens state main directory name origin old new refusal stack
-StopsLoading Opens state main directory name origin old new (files_stops.Input (stops.Refused fault place)) =
+StopsLoading Opens state main directory name origin old new (told.Input (stops.Refused fault place)) =
     (fault ≡ InputTooLong) × (place ≡ Whole)
     × IsTooLong Opens state main (at_first directory name origin) old new
-StopsLoading Opens state main directory name origin old new (files_stops.Input stops.Read) = ⊥
-StopsLoading Opens state main directory name origin old new (files_stops.Input stops.Write) = ⊥
-StopsLoading Opens state main directory name origin old new (files_stops.Input stops.Memory) = Unit {0}
+StopsLoading Opens state main directory name origin old new (told.Input stops.Read) = ⊥
+StopsLoading Opens state main directory name origin old new (told.Input stops.Write) = ⊥
+StopsLoading Opens state main directory name origin old new (told.Input stops.Memory) = Unit {0}
 
 -- ---- a text that is written
 
@@ -168,12 +168,12 @@ pub record FailsWriting {S F : Type 0} (Opens : S → List ℕ → Option F → 
 -- Why files give no whole text, and what was written of it.
 abbrev pub StopsExpanding : {S F : Type 0} → (S → List ℕ → Option F → S → Type 0) → (F → Device) → F
     → Option (List ℕ) → List ℕ → Labels → S → S → Device → Device → FilesStop → Type 0
-StopsExpanding Opens state main directory name origin old new output output' (files_stops.Files refusal stack) =
+StopsExpanding Opens state main directory name origin old new output output' (told.Files refusal stack) =
     WritesInPart Opens state main (at_first directory name origin) old new output output' refusal stack
-StopsExpanding Opens state main directory name origin old new output output' (files_stops.Input (stops.Refused fault place)) =
+StopsExpanding Opens state main directory name origin old new output output' (told.Input (stops.Refused fault place)) =
     (fault ≡ InputTooLong) × (place ≡ Whole)
     × IsTooLong Opens state main (at_first directory name origin) old new
-StopsExpanding Opens state main directory name origin old new output output' (files_stops.Input stops.Read) = ⊥
-StopsExpanding Opens state main directory name origin old new output output' (files_stops.Input stops.Write) =
+StopsExpanding Opens state main directory name origin old new output output' (told.Input stops.Read) = ⊥
+StopsExpanding Opens state main directory name origin old new output output' (told.Input stops.Write) =
     FailsWriting Opens state main (at_first directory name origin) old new output output'
-StopsExpanding Opens state main directory name origin old new output output' (files_stops.Input stops.Memory) = Unit {0}
+StopsExpanding Opens state main directory name origin old new output output' (told.Input stops.Memory) = Unit {0}

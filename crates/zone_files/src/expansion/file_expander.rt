@@ -2,6 +2,7 @@
 ghost use Rattle.std.specs.Prelude.{◌≡◌, ◌++◌, ◌⊎◌, ◌≤◌, ℕ, suc, [], None, Some, IfNone, IfOk, IfSome, OnErr, OnOk, option_map};
 ghost use Rattle.zone_files.specs.Expansion.{at_first, first_without, no_files, within};
 ghost use Rattle.zone_files.specs.FileExpander.{AddsWithin, Feeds, HasFewerLines, IsOver, NamedFile, StandsFor, TakesIncluded, WritesFor, lines_left};
+ghost use Rattle.zone_files.specs.IncludeStack.{file_name};
 ghost use Rattle.zone_files.specs.Turns.{EndsFile, GoesAfterLines, TakesSome};
 ghost use Rattle.zone_generate.specs.Entry.{Generation};
 ghost use Rattle.zone_generate.specs.Range.{values_from};
@@ -247,6 +248,13 @@ impl FileExpander {
             Some(lines) => lines.values_left(),
             None => 0,
         }
+    }
+
+    /// The name under which the file was opened.
+    pub(crate) fn file_name(&self) -> Option<&str>
+        ensures { option_map (λ name. name.now) result ≡ file_name self.now.holds }
+    {
+        self.expansion.progress.holding.file_name()
     }
 
     /// How many files were included so far.

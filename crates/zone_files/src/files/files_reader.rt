@@ -97,8 +97,8 @@ impl<R: OctetReader + Drop> FilesReader<R> {
 
     /// Closes the files that have ended, so many of the innermost ones.
     fn close_ended(&mut self)
-        ensures stands { (main : R) (ended : ℕ) (first : Holds) (opened : List (OpenedFile R)) (text : List ℕ)
-            → StandsAfter R.state main ended first self.old opened text
+        ensures stands { (main : R) (ended : ℕ) (first : Holds) (opened : List (OpenedFile R))
+            (text : List ℕ) → StandsAfter R.state main ended first self.old opened text
             → StandsForRead R.state main first self.new opened text }
         ensures stack { self.new.stack ≡ self.old.stack }
         ensures text { self.new.text.items ≡ self.old.text.items }
@@ -193,7 +193,8 @@ impl<R: OctetReader + Drop> FilesReader<R> {
         requires wanted { wanted_name self.old.stack ≡ None → ⊥ }
         requires few { self.old.included < 10000 }
         requires fewer { self.old.stack.innermost.holds.opened < 10000 }
-        ensures stands { OnOk result ((main : R) (name : List ℕ) (first : Holds) (opened : List (OpenedFile R)) (text : List ℕ)
+        ensures stands { OnOk result ((main : R) (name : List ℕ) (first : Holds)
+            (opened : List (OpenedFile R)) (text : List ℕ)
             → StandsForRead R.state main first self.old opened text
             → StandsForRead R.state main first self.new
             (opened ++ record { name = name; reader = file } ∷ []) text) }

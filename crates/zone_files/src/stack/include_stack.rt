@@ -1,9 +1,9 @@
 //! The files that are open while a main file is expanded.
-ghost use Rattle.std.specs.Prelude.{◌≡◌, ◌<◌, ◌≤◌, ◌+◌, ◌⊎◌, [], None, true, false, length, option_map, IfOk, OnErr, OnOk};
+ghost use Rattle.std.specs.Prelude.{◌≡◌, ◌<◌, ◌≤◌, ◌+◌, ◌⊎◌, [], None, true, false, length, option_map, IfOk, IsNone, OnErr, OnOk};
 ghost use Rattle.zone_files.specs.Expansion.{at_first, first_without};
 ghost use Rattle.zone_files.specs.ExpandedLoader.{stopped};
 ghost use Rattle.zone_files.specs.FileExpander.{HasFewerLines, IsOver, lines_left};
-ghost use Rattle.zone_files.specs.IncludeStack.{BeginsInner, EndsInnermost, FeedsInnermost, MakesLines, StandsForFiles, fed_ended, main_alone, stop_line, wanted_name};
+ghost use Rattle.zone_files.specs.IncludeStack.{BeginsInner, EndsInnermost, FeedsInnermost, MakesLines, StandsForFiles, fed_ended, file_name, main_alone, stop_line, wanted_name};
 ghost use Rattle.zone_files.specs.Turns.{EndsFile, GoesAfterLines, TakesSome};
 ghost use Rattle.zone_files.specs.Machine.Stacking.{EndsOutward, GivesOn, IsSameOrShorter, StopsText, TakesPart};
 ghost use Rattle.zone_files.specs.declared.expansion.progress.FileStatus.TheVariants.{Ended, Failed, Generating, Going, Including};
@@ -222,9 +222,11 @@ impl IncludeStack {
         self.outer.len()
     }
 
-    /// The name of the innermost file, which is read.
-    pub fn innermost_name(&self) -> Option<&str> {
-        self.lines.innermost_name()
+    /// The name under which the innermost file was opened, which is read.
+    pub fn innermost_name(&self) -> Option<&str>
+        ensures { option_map (λ name. name.now) result ≡ file_name self.now.innermost.holds }
+    {
+        self.innermost.file_name()
     }
 
     /// How many lines come first, if the templates say something for each value: none where no
@@ -249,8 +251,14 @@ impl IncludeStack {
         self.lines.next_line()
     }
 
-    /// Where a line of the expanded text comes from. `None`: it is no line of the text so far.
-    pub fn place_of(&self, line: u64) -> Option<EntryPlace<'_>> {
+    /// Where a line of the expanded text comes from. `None`: it is no line of the text so far, which may
+    /// end inside the line that comes next.
+    pub fn place_of(&self, line: u64) -> Option<EntryPlace<'_>>
+        ensures { self.now.next_line < line → IsNone result }
+    {
+        if line > self.lines.next_line() {
+            return None;
+        }
         self.lines.place_of(line)
     }
 

@@ -35,8 +35,8 @@ returns-in-Ok-write_all-clause-stopped g c =
     IfErr-weaker c.ended.result _ _
     (λ why stops. ended_stops opens state c.args.main _ c.args.name.now c.args.origin.now c.args.files.now c.write_all.new.files (g.W.OctetWriter.state c.args.output.now) _ c.write_all.new.reader.stack it.text why
     (reads_to_end opens state c.args.main _ c.args.files.now c.write_all.new.files it.text c.write_all.new.reader it.reads c.in-Ok-write_all.ensures.ended.0)
-    it.written (stops c.in-Ok-write_all.ensures.ended))
-    c.ended.ensures.stopped
+    it.written stops)
+    (c.ended.ensures.stopped c.in-Ok-write_all.ensures.ended)
 
 pub returns-in-Err-Reading-clause-stopped : goal.returns-in-Err-Reading-clause-stopped
 returns-in-Err-Reading-clause-stopped g c =
