@@ -1,5 +1,5 @@
 -- The stack of the files that are open: what it stands for after each call.
-use Rattle.std.proofs.Common.{◌≡◌, ℕ, zero, suc, ◌+◌, ◌≤◌, ◌⊎◌, inl, inr, Bool, List, [], ◌∷◌, ◌++◌, length, Option, Some, None, refl, sym, ap, subst, ◌∙◌, append_assoc, append-nil, arith}
+use Rattle.std.proofs.Common.{◌≡◌, ℕ, zero, suc, ◌+◌, ◌≤◌, ◌⊎◌, inl, inr, Bool, ◌<◌, List, [], ◌∷◌, ◌++◌, length, Option, Some, None, refl, sym, ap, subst, ◌∙◌, append_assoc, append-nil, arith}
 use Rattle.std.proofs.lemmas.List.{reverse-append}
 use Rattle.std.proofs.lemmas.List.Elements.{All-pop, All-push, All-same}
 use Rattle.std.proofs.lemmas.List.Sums.{sum_by-append}
@@ -9,7 +9,7 @@ use Rattle.zone_name.specs.Common.{Labels}
 use Rattle.zone_files.specs.Expansion.{Ending, Expands, Files, Holds, IsExpandedWithout, breaks_off, ends, file, first_without, last_line, no_files, stops, stops_at, within}
 use Rattle.zone_files.specs.FileExpander.{AfterInner, Awaits, ExpanderState, Feeds, HasFewerLines, IsOver, NamedFile, StandsBy, StandsFor, TakesIncluded, WritesFor, then}
 use Rattle.zone_files.specs.IncludeStack.{AllWait, BeginsInner, EndsInnermost, FedFile, FedFiles, FeedsInnermost, MakesLines, StackState, StandForFiles, StandsForFiles, WaitsFor, WritesForFiles, ended_by, fed_ended, fed_inner, fed_more, feeds_in, line_after_text, main_alone, main_by, main_file, stop_line, with_inner}
-use Rattle.zone_files.specs.Machine.Stacking.{EndsOutward, EndsSoFar, GivesOn, StopsText, TakesPart}
+use Rattle.zone_files.specs.Machine.Stacking.{EndsOutward, EndsSoFar, GivesOn, IsSameOrShorter, StopsText, TakesPart}
 use Rattle.zone_files.specs.Places.{counted}
 use Rattle.zone_files.specs.declared.expansion.progress.FileStatus.{FileStatus}
 use Rattle.zone_files.specs.declared.expansion.progress.FileStatus.TheVariants as statuses
@@ -369,3 +369,14 @@ reversed_pop old new last s parts is = ap reverse parts ∙ ap (λ (o : Option E
 
 pub reversed_push : (old new : List ExpanderState) (s : ExpanderState) → new ≡ old ++ s ∷ [] → reverse new ≡ s ∷ reverse old
 reversed_push old new s parts = ap reverse parts ∙ reverse-append old (s ∷ [])
+
+-- ---- which file is the innermost one
+
+pub shorter_more : (start cur next : StackState) → IsSameOrShorter start cur → length cur.outer ≡ 1 + length next.outer → IsSameOrShorter start next
+shorter_more start cur next (inl same) outer = inr (omega (arith, same.1, outer))
+shorter_more start cur next (inr fewer) outer = inr (omega (arith, fewer, outer))
+
+-- what holds of the innermost file before others end with it
+pub holds_or_shorter : (P : ExpanderState → Type 0) (old mid cur new : StackState) (before after : List ℕ) → mid.outer ≡ old.outer → P mid.innermost → IsSameOrShorter mid cur → StopsText cur new before after → P new.innermost ⊎ (length new.outer < length old.outer)
+holds_or_shorter P old mid cur new before after outer p (inl same) stopped = inl (subst P (sym (stopped.innermost ∙ same.0)) p)
+holds_or_shorter P old mid cur new before after outer p (inr fewer) stopped = inr (omega (arith, fewer, ap length outer, ap length stopped.outer))

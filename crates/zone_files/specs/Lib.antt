@@ -10,6 +10,9 @@ pub mod PlacedLine
 pub mod Machine
 pub mod Expansion
 pub mod FileExpander
+pub mod Turns
 pub mod IncludeStack
 pub mod ExpandedLoader
 pub mod Reading
+pub mod FilesStopped
+pub mod FileTree

@@ -1,10 +1,11 @@
 //! What holds for the next entry of a file.
-ghost use Rattle.std.specs.Prelude.{◌≡◌, Option, Some, drop, map, bytes_eq};
+ghost use Rattle.std.specs.Prelude.{◌≡◌, Option, Some, drop, map, bytes_eq, option_map};
 ghost use Rattle.std.specs.List.{list_any};
 ghost use Rattle.zone_name.specs.Common.{Labels};
 ghost use Rattle.zone_rdata.specs.Item.{raw};
 ghost use Rattle.zone_words.specs.Inherited.{IsOneOrNone};
 ghost use Rattle.zone_words.specs.Origin.{NamesOrigin};
+ghost use Rattle.zone_files.specs.IncludeStack.{file_name};
 ghost use Rattle.zone_files.specs.Expansion.{SpellsOwner, after_count, is_next, left_out, owned_by, past, stating, under};
 
 use crate::expansion::opened_name::FileName;
@@ -122,6 +123,16 @@ impl Holding {
         match self.taken_out.first() {
             Some(first) => self.line <= *first && *first - self.line < lines,
             None => false,
+        }
+    }
+
+    /// The name of the file.
+    pub(crate) fn file_name(&self) -> Option<&str>
+        ensures { option_map (λ name. name.now) result ≡ file_name self.now }
+    {
+        match self.open.last() {
+            Some(name) => Some(name.as_str()),
+            None => None,
         }
     }
 

@@ -5,10 +5,11 @@ ghost use Rattle.zone_rdata.specs.declared.fault.Fault.{Fault};
 ghost use Rattle.zone_rdata.specs.declared.fault.Place.TheVariants.{Line};
 ghost use Rattle.zone_print.specs.Canonical.{canon, text_limit};
 ghost use Rattle.zone_files.specs.Expansion.{Holds, at_first, first_without};
-ghost use Rattle.zone_files.specs.ExpandedLoader.{FilesDenote, FilesDenoteWithout, LoadsEnd, LoadsInnermost, RefusesFor, StandsForExpanded, stopped};
+ghost use Rattle.zone_files.specs.ExpandedLoader.{FilesDenote, FilesDenoteWithout, LoadsEnd, LoadsInnermost, RefusesFor, StandsForExpanded, judged, stopped};
 ghost use Rattle.zone_files.specs.FileExpander.{IsOver};
 ghost use Rattle.zone_files.specs.IncludeStack.{FedFiles, StandsForFiles, fed_inner, main_alone, main_file};
 ghost use Rattle.zone_files.specs.Loading.Fed.{StandsForPresentation};
+ghost use Rattle.zone_files.specs.Presentation.{PresentationDenotes};
 ghost use Rattle.zone_files.specs.Machine.ExpandedLoading.{DenotesLoaded, RefusesFaulty, RefusesUnread, RefusesWhole};
 
 use crate::expansion::FileStatus;
@@ -213,6 +214,9 @@ impl ExpandedLoader {
             → FilesDenoteWithout lines directory name origin (main_file fed).octets
             (main_file fed).files z) }
         ensures short { IfOk result.0 (λ z. length (canon z) ≤ text_limit) }
+        ensures accepted { IfOk result.0 (λ z. (origin : Labels) (text : List ℕ)
+            → StandsForPresentation origin self.loader text
+            → PresentationDenotes origin (judged self.stack text) z) }
         ensures refused { IfErr result.0 (λ refusal. (origin : Labels) (first : Holds)
             (fed : FedFiles) (text : List ℕ) → StandsForFiles self.stack first fed text
             → StandsForPresentation origin self.loader text
@@ -233,6 +237,9 @@ fn loaded(stack: &IncludeStack, loader: PresentationLoader) -> Result<Zone, Expa
         → FilesDenoteWithout lines directory name origin (main_file fed).octets
         (main_file fed).files z) }
     ensures short { IfOk result (λ z. length (canon z) ≤ text_limit) }
+    ensures accepted { IfOk result (λ z. (origin : Labels) (text : List ℕ)
+        → StandsForPresentation origin loader text
+        → PresentationDenotes origin (judged stack.now text) z) }
     ensures refused { IfErr result (λ refusal. (origin : Labels) (text : List ℕ)
         → StandsForPresentation origin loader text
         → RefusesFor refusal stack.now origin text) }
