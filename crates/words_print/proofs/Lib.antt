@@ -13,4 +13,3 @@ mod Fitting
 mod CanonicalLines
 mod Origins
 mod OneText
-mod OneItems
