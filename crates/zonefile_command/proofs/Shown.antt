@@ -1,7 +1,7 @@
 -- From what is made of a zone's text, and written of it, to what is left.
-use Rattle.std.proofs.Common.{◌≡◌, ◌∙◌, ℕ, List, subst, sym}
+use Rattle.std.proofs.Common.{◌≡◌, ◌∙◌, ℕ, List, refl, subst, sym}
 use Rattle.std.proofs.KnownBytes.{Keeps-refl}
-use Rattle.std.specs.Prelude.{Result, IfErr, IfOk, IsErrAnd, Ok, Err, OnErr, OnOk}
+use Rattle.std.specs.Prelude.{⊤, Option, Some, Result, IfErr, IfOk, IsErrAnd, Ok, Err, OnErr, OnOk}
 use Rattle.std.specs.Io.KnownBytes.{Appends}
 use Rattle.zone_rdata.specs.declared.fault.Stop.{Stop}
 use Rattle.zone_rdata.specs.declared.fault.Stop.TheVariants.{Memory, Read, Refused, Write}
@@ -12,7 +12,7 @@ use Rattle.zone_print.specs.Writing.{AppendsPart, IsFailedWrite, StopsPush}
 use Rattle.zone_print.specs.Writing as pushes
 use Rattle.words_print.specs.Shown.{IsShownText}
 use Rattle.zone_difference.specs.Difference.{AreChanges, Change}
-use Rattle.zone_difference.specs.Text.{changes_text}
+use Rattle.zone_difference.specs.Text.{IsWriteStop, changes_text}
 use Rattle.zone_difference.specs.declared.name_case.NameCase.{NameCase}
 use Rattle.zonefile_command.specs.Run.{AppendsText, IsTextOf, StopsChanges}
 use Rattle.zonefile_command.specs.declared.notation.Notation.{Notation}
@@ -49,3 +49,10 @@ pub unmade_changes : (case : NameCase) (z other : Zone) (device : Device) {T : T
 unmade_changes case z other device (Ok x) why is made = tt
 unmade_changes case z other device (Err e) why is (short, (changes, are)) =
     (changes, are, subst (λ (s : Stop). StopsShowing (changes_text changes) device device s) (sym (is ∙ short)) (memory (Keeps-refl _, λ w. w)))
+
+-- a writer to memory doesn't fail
+pub memory_alone : (written : List ℕ) (now : Option (List ℕ)) (why : Stop) → IsWriteStop (record { octets = Some written; works = ⊤; failed = ⊥ }) (record { octets = now; works = ⊤; failed = ⊥ }) why → why ≡ Memory
+memory_alone written now (Refused fault place) failed = absurd failed
+memory_alone written now Read failed = absurd failed
+memory_alone written now Write failed = absurd (failed tt)
+memory_alone written now Memory failed = refl

@@ -137,6 +137,6 @@ fn changes_in_memory(
             Ok(octets) => Ok((differ, octets)),
             Err(_) => Err(Stop::Memory),
         },
-        Err(_) => Err(Stop::Memory),
+        Err(stop) => Err(stop),
     }
 }
