@@ -1,3 +1,4 @@
+pub mod Least
 pub mod Lines
 pub mod Reading
 pub mod Sought

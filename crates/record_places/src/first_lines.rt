@@ -24,7 +24,7 @@ use zone_words::rewrite_file;
 /// 5.1). The zone is the one that these octets denote, a master file with records of all types in
 /// presentation format; of another zone the lines mean nothing. Lines begin with 1.
 ///
-/// It keeps the file's generic form while it runs, and 48 octets for each record beside its line.
+/// While it runs it keeps the file's generic form and a borrow of each record.
 ///
 /// # Errors
 ///

@@ -2,6 +2,7 @@
 #![tactic(auto)]
 
 mod first_lines;
+pub mod laws;
 mod placed_zone;
 mod sorted_records;
 

@@ -12,3 +12,5 @@ mod Heads
 mod Fitting
 mod CanonicalLines
 mod Origins
+mod OneText
+mod OneItems

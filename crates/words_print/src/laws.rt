@@ -13,6 +13,8 @@ ghost use Rattle.type_data.specs.PrintedData.{HasNoWords, PrintsData};
 ghost use Rattle.type_data.specs.Table.{FurtherType, further_type};
 ghost use Rattle.zone_words.specs.WordsLine.{IsHead, generic_line, words_line};
 
+pub mod printed;
+
 use zone_print::laws::each_line_is_one_entry;
 use zone_words::laws::words::{
     a_generic_line_is_one_entry, a_line_in_words_is_rewritten, the_words_of_data,
