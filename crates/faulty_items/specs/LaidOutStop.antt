@@ -14,23 +14,23 @@ use Rattle.faulty_items.specs.StopsAt.{StopsAt}
 abbrev pub SpellAValue : Labels → Field → List RawItem → Type 0
 SpellAValue origin f items = (value : FieldValue) × SpellsField origin f items value
 
+-- the first item, if there is one
+abbrev pub first_item : List RawItem → Option RawItem
+first_item [] = None
+first_item (item ∷ items) = Some item
+
 -- The first field whose own items spell no value of it, by its name; or the first item after all
 -- fields, which is told of the last. Where no field fails and no item is left over, the last field
 -- and no item: the data as a whole has too many octets, or nothing is wrong.
-abbrev pub FieldsStop : Labels → (ℕ → List ℕ) → ℕ → List ℕ → List Field → List RawItem → Stop → Type 0
-FieldsStop origin name_at place last [] [] stop = stop ≡ stop_at last None
-FieldsStop origin name_at place last [] (item ∷ items) stop = stop ≡ stop_at last (Some item)
+abbrev pub FieldsStop
+    : Labels → (ℕ → List ℕ) → ℕ → List ℕ → List Field → List RawItem → Stop → Type 0
+FieldsStop origin name_at place last [] items stop = stop ≡ stop_at last (first_item items)
 FieldsStop origin name_at place last (f ∷ fields) items stop =
     ((SpellAValue origin f (own_items f items) → ⊥)
     × ((found : Option RawItem) × StopsAt (SpellAValue origin f) (own_items f items) found
     × (stop ≡ stop_at (name_at place) found)))
     ⊎ (SpellAValue origin f (own_items f items)
     × FieldsStop origin name_at (suc place) (name_at place) fields (items_after f items) stop)
-
--- where there is no layout: at the first item, which isn't the mark of the generic form
-abbrev pub first_item : List RawItem → Option RawItem
-first_item [] = None
-first_item (item ∷ items) = Some item
 
 -- the reading of items as data of a layout, if there is one, in presentation format or in the
 -- generic form

@@ -4,5 +4,6 @@ pub mod GenericStop
 pub mod FieldNames
 pub mod LaidOutStop
 pub mod FurtherStop
+pub mod Coded
 pub mod ShownItem
 pub mod Machine

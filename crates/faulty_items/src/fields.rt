@@ -3,6 +3,8 @@ ghost use Rattle.std.specs.Prelude.{◌≡◌, ◌∷◌, [], List, codes, drop,
 ghost use Rattle.zone_rdata.specs.Item.{raw};
 ghost use Rattle.type_data.specs.DataItem.{TouchingItem, given};
 ghost use Rattle.type_data.specs.Kinds.Number.{stated_number};
+ghost use Rattle.type_data.specs.declared.field.BareKind.TheVariants as bare_kinds;
+ghost use Rattle.type_data.specs.declared.field.FieldKind.TheVariants as kinds;
 ghost use Rattle.type_data.specs.Table.{address_kind, amtrelay_by, field, field_of, fields_in, ipseckey_by, is_one, key_kind, number_at, of_code};
 
 use type_data::BareKind::{
@@ -75,7 +77,7 @@ fn number_of_item(item: Item) -> Option<u64>
 
 /// The gateway of IPSECKEY data by its type (RFC 4025 2.5).
 fn gateway_of(number: Option<u64>) -> &'static [Field]
-    ensures { map field_of result.now ≡ field (codes "gateway") (Bare (address_kind number)) ∷ [] }
+    ensures { map field_of result.now ≡ field (codes "gateway") (kinds.Bare (address_kind number)) ∷ [] }
 {
     match number {
         Some(0) => NO_GATEWAY,
@@ -98,7 +100,7 @@ fn key_of(number: Option<u64>) -> &'static [Field]
 /// The type of the relay of AMTRELAY data by whether its discovery is optional (RFC 8777 4.2.3).
 fn relay_type_of(discovery: Option<u64>) -> &'static [Field]
     ensures { map field_of result.now
-        ≡ field (codes "type") (Bare (AddressType (is_one discovery))) ∷ [] }
+        ≡ field (codes "type") (kinds.Bare (bare_kinds.AddressType (is_one discovery))) ∷ [] }
 {
     match discovery {
         Some(1) => OPTIONAL_TYPE,
@@ -108,7 +110,7 @@ fn relay_type_of(discovery: Option<u64>) -> &'static [Field]
 
 /// The relay of AMTRELAY data by its type (RFC 8777 4.2.4).
 fn relay_of(number: Option<u64>) -> &'static [Field]
-    ensures { map field_of result.now ≡ field (codes "relay") (Bare (address_kind number)) ∷ [] }
+    ensures { map field_of result.now ≡ field (codes "relay") (kinds.Bare (address_kind number)) ∷ [] }
 {
     match number {
         Some(0) => NO_RELAY,

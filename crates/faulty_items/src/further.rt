@@ -6,7 +6,8 @@ ghost use Rattle.zone_name.specs.Common.{Labels};
 ghost use Rattle.type_data.specs.Field.{own_count, takes_one};
 ghost use Rattle.type_data.specs.Table.{NamedField, field_of, fields_in, of_code};
 ghost use Rattle.faulty_items.specs.FurtherStop.{FurtherFieldsStop};
-ghost use Rattle.faulty_items.specs.Machine.FurtherReading.{coded_stop};
+ghost use Rattle.faulty_items.specs.Coded.{coded_stop};
+ghost use Rattle.faulty_items.specs.Machine.FurtherReading.{IsStopIn};
 
 use crate::fields::{count_of, field_at};
 use crate::going_on::{Room, stop_in};
@@ -62,6 +63,17 @@ fn name_of(field: &'static [Field]) -> &'static str
     }
 }
 
+/// The item alone.
+fn item_in(found: Option<DataItem<'_>>) -> Option<Item<'_>>
+    ensures { option_map raw result
+        ≡ option_map (λ (t : TouchingItem). t.item) (option_map given found.entry) }
+{
+    match found {
+        Some(found) => Some(found.item),
+        None => None,
+    }
+}
+
 /// Where a reading stops after the last field, by its name, where these items are left over.
 fn stop_after<'e>(last: &'static str, left: &[DataItem<'e>]) -> FurtherStop<'e>
     ensures { (origin : Labels)
@@ -79,6 +91,26 @@ fn stop_after<'e>(last: &'static str, left: &[DataItem<'e>]) -> FurtherStop<'e>
             item: None,
         },
     }
+}
+
+/// Where a reading of a field's own items stops, of which this is told. `room` is room.
+fn stop_of<'e>(
+    field: &'static [Field],
+    own: &[DataItem<'e>],
+    name: &'static str,
+    fault: WordsFault,
+    origin: &CasedName,
+    room: &mut Room<'e>,
+) -> Result<FurtherStop<'e>, AllocError>
+    ensures { (f : NamedField) → map field_of field.now ≡ f ∷ []
+        → IfOk result (IsStopIn origin.now f own.now name.now fault) }
+{
+    let found = stop_in(field, own, origin, room)?;
+    Ok(FurtherStop {
+        field: name,
+        fault,
+        item: item_in(found),
+    })
 }
 
 /// Where a reading of the items of a further type's data stops, in presentation format and under an
@@ -110,12 +142,7 @@ pub fn further_stop<'e>(
         match read_data(&Fields::Same(field), own, origin, &mut room.octets) {
             Ok(()) => (taken, last) = (next, name_of(field)),
             Err(DataFailing::Fault { field: name, fault }) => {
-                let found = stop_in(field, own, origin, &mut room)?;
-                return Ok(FurtherStop {
-                    field: name,
-                    fault,
-                    item: found.map(|found| found.item),
-                });
+                return stop_of(field, own, name, fault, origin, &mut room);
             }
             Err(DataFailing::OutOfMemory) => return Err(AllocError),
         }

@@ -1,5 +1,5 @@
 //! Where a reading of data in the generic form stops (RFC 3597 5).
-ghost use Rattle.std.specs.Prelude.{◌≡◌, ◌<◌, ◌≤◌, IfOk, map, option_map};
+ghost use Rattle.std.specs.Prelude.{◌≤◌, ℕ, IfNone, IfOk, IfSome, map, option_map};
 ghost use Rattle.zone_rdata.specs.Item.{IsGeneric, raw};
 ghost use Rattle.zone_rdata.specs.Generic.{StatesLength};
 ghost use Rattle.faulty_items.specs.GenericStop.{GenericStops, JoinUpTo};

@@ -1,11 +1,12 @@
 //! Where a reading of data that `zone_rdata` lays out stops (RFC 1035 3.3, 5.1; RFC 3597 5).
-ghost use Rattle.std.specs.Prelude.{◌≡◌, ◌≤◌, IfOk, List, codes, drop, length, map, take};
+ghost use Rattle.std.specs.Prelude.{◌≡◌, ◌≤◌, ℕ, IfOk, List, [], codes, drop, length, map, take};
+ghost use Rattle.zone_name.specs.Common.{Labels};
 ghost use Rattle.zone_rdata.specs.Field.{items_after, own_items};
 ghost use Rattle.zone_rdata.specs.Item.{RawItem, raw};
-ghost use Rattle.zone_rdata.specs.Layout.{fields_of};
+ghost use Rattle.zone_rdata.specs.Layout.{IsLayout, fields_of};
 ghost use Rattle.faulty_items.specs.FieldNames.{field_name};
 ghost use Rattle.faulty_items.specs.LaidOutStop.{FieldsStop, LaidOutStops};
-ghost use Rattle.faulty_items.specs.Machine.LaidOutReading.{JudgesItems};
+ghost use Rattle.faulty_items.specs.Machine.LaidOutReading.{AreOwn, JudgesItems};
 ghost use Rattle.faulty_items.specs.Stop.{stop_of};
 
 use crate::field_names::field_name;
@@ -14,6 +15,7 @@ use crate::spelling::spells;
 use crate::stop::DataStop;
 use std::alloc::{AllocError, Global};
 use zone_name::Name;
+use zone_rdata::laws::items::layouts_are_sound;
 use zone_rdata::{Class, Field, Item, Kind, Layout, is_generic, layout_of};
 
 /// How many of so many items that are left are a field's own.
@@ -43,6 +45,7 @@ fn judge<'e>(
     origin: &Name,
     octets: &mut Vec<u8>,
 ) -> Result<OwnItems<'e>, AllocError>
+    requires { AreOwn field (map raw own.now) }
     ensures { IfOk result (JudgesItems origin.now field (map raw own.now)) }
 {
     if own.is_empty() {
@@ -56,6 +59,23 @@ fn judge<'e>(
     Ok(OwnItems::Spell)
 }
 
+/// Where a reading stops after the last field, by its name, where these items are left over.
+fn stop_after<'e>(last: &'static str, left: &[Item<'e>]) -> DataStop<'e>
+    ensures { (origin : Labels) (name_at : ℕ → List ℕ) (place : ℕ)
+        → FieldsStop origin name_at place last.now [] (map raw left.now) (stop_of result) }
+{
+    match left.first() {
+        Some(item) => DataStop {
+            field: last,
+            item: Some(*item),
+        },
+        None => DataStop {
+            field: last,
+            item: None,
+        },
+    }
+}
+
 /// Where a reading of items as the fields of a layout stops. `octets` is room.
 fn fields_stop<'e>(
     layout: Layout,
@@ -64,6 +84,7 @@ fn fields_stop<'e>(
     origin: &Name,
     octets: &mut Vec<u8>,
 ) -> Result<DataStop<'e>, AllocError>
+    requires { IsLayout (fields_of layout) }
     ensures { IfOk result (λ stop. FieldsStop origin.now (field_name kind) 0 (codes "data")
         (fields_of layout) (map raw items.now) (stop_of stop)) }
 {
@@ -76,10 +97,7 @@ fn fields_stop<'e>(
             OwnItems::Stop(item) => return Ok(DataStop { field: name, item }),
         }
     }
-    Ok(DataStop {
-        field: last,
-        item: items[taken..].first().copied(),
-    })
+    Ok(stop_after(last, &items[taken..]))
 }
 
 /// Where a reading of the items of a record's data stops, as data of a class and type under an
@@ -100,15 +118,13 @@ pub fn laid_out_stop<'e>(
     ensures { IfOk result (λ stop.
         LaidOutStops origin.now class kind (map raw items.now) (stop_of stop)) }
 {
+    layouts_are_sound();
     let mut octets = Vec::new(alloc);
     if is_generic(items) {
         return generic_stop(items, &mut octets);
     }
     match layout_of(class, kind) {
         Some(layout) => fields_stop(layout, kind.number(), items, origin, &mut octets),
-        None => Ok(DataStop {
-            field: "data",
-            item: items.first().copied(),
-        }),
+        None => Ok(stop_after("data", items)),
     }
 }

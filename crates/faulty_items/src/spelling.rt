@@ -1,9 +1,9 @@
 //! Whether an item spells a value of a field that `zone_rdata` lays out (RFC 1035 3.3, 5.1).
-ghost use Rattle.std.specs.Prelude.{◌≡◌, ◌∷◌, [], ◌≢◌, Err, IfErr, Ok, OnOk, true, false};
+ghost use Rattle.std.specs.Prelude.{◌≡◌, ◌∷◌, ◌≢◌, ℕ, List, Ok, Some, [], false, true};
 ghost use Rattle.zone_name.specs.Common.{NothingIs};
-ghost use Rattle.zone_rdata.specs.Field.{SpellsField};
 ghost use Rattle.zone_rdata.specs.Item.{bare, raw};
 ghost use Rattle.zone_rdata.specs.Strings.{SpellsString};
+ghost use Rattle.zone_rdata.specs.Address.{IsIpv4Address, IsIpv6Address};
 ghost use Rattle.zone_rdata.specs.Fields.Address.{IsAddress};
 ghost use Rattle.zone_rdata.specs.Fields.Number.{SpellsNumber};
 ghost use Rattle.zone_rdata.specs.Fields.Time.{SpellsTime};
@@ -51,14 +51,36 @@ fn is_time(text: &[u8]) -> bool
     }
 }
 
+/// Whether the text is an address of four octets.
+fn is_ipv4(text: &[u8]) -> bool
+    ensures yes { result ≡ true → (octets : List ℕ) × IsIpv4Address text.now octets }
+    ensures no { result ≡ false → NothingIs (IsIpv4Address text.now) }
+{
+    match ipv4_octets_of(text) {
+        Some(_) => true,
+        None => false,
+    }
+}
+
+/// Whether the text is an address of sixteen octets.
+fn is_ipv6(text: &[u8]) -> bool
+    ensures yes { result ≡ true → (octets : List ℕ) × IsIpv6Address text.now octets }
+    ensures no { result ≡ false → NothingIs (IsIpv6Address text.now) }
+{
+    match ipv6_octets_of(text) {
+        Some(_) => true,
+        None => false,
+    }
+}
+
 /// Whether the text is an address of so many octets.
 fn is_address(count: usize, text: &[u8]) -> bool
     ensures yes { result ≡ true → (octets : List ℕ) × IsAddress count text.now octets }
     ensures no { result ≡ false → NothingIs (IsAddress count text.now) }
 {
     match count {
-        4 => ipv4_octets_of(text).is_some(),
-        16 => ipv6_octets_of(text).is_some(),
+        4 => is_ipv4(text),
+        16 => is_ipv6(text),
         _ => false,
     }
 }
@@ -68,7 +90,10 @@ fn is_name(text: &[u8], origin: &Name) -> bool
     ensures yes { result ≡ true → (name : List (List ℕ)) × Spells (Some origin.now) text.now name }
     ensures no { result ≡ false → NothingIs (Spells (Some origin.now) text.now) }
 {
-    Name::from_text(text, Some(origin)).is_ok()
+    match Name::from_text(text, Some(origin)) {
+        Ok(_) => true,
+        Err(_) => false,
+    }
 }
 
 /// Whether the item is a character-string. `octets` is room.

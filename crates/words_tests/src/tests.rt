@@ -1,5 +1,6 @@
 //! Master files that are written again, texts that are shown in words, and runs of the program.
 mod expanded_texts;
+mod faulty_items;
 mod include_stacks;
 mod included_files;
 mod presentation_files;
