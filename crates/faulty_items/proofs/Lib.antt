@@ -1,0 +1,6 @@
+pub mod Common
+pub mod CanGoOn
+pub mod SpeltValues
+pub mod ShownOctets
+pub mod Reading
+pub mod Digits
