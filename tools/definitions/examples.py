@@ -6,7 +6,7 @@ from pathlib import Path
 
 from machine import Machine, labels_of, raw_items, record, text, tokens_in, touching_items, truth, zone
 from steps import settled
-from values import Made, Value, front_of, list_of, octets_of
+from values import Fields, Made, Value, front_of, list_of, octets_of
 
 FOLDER = Path(__file__).resolve().parent / "examples"
 DATA, PRINTED, TABLE = "type_data.specs.Data", "type_data.specs.PrintedData", "type_data.specs.Table"
@@ -206,6 +206,29 @@ def digests() -> Iterator[Example]:
             yield Example(f"{words[0]} {words[1]} of {of.name}", partial(agrees, of, words))
 
 
+# ---- zones
+
+def chosen(records: list[Value], word: str) -> Value:
+    """The record of a number, perhaps with another field."""
+    number, _, change = word.partition(":")
+    name, _, value = change.partition("=")
+    if not name:
+        return records[int(number)]
+    return Fields({**records[int(number)].parts, name: labels_of(value) if name == "owner" else int(value)})
+
+
+def is_zone(words: list[str], wanted: bool, machine: Machine) -> bool:
+    records = front_of(digested_zones()[0].made(machine).parts["records"])[0]
+    made = zone("example.", [chosen(records, word) for word in words])
+    return machine.holds("zone_set.specs.Zone.IsZone", made) == wanted
+
+
+def zones() -> Iterator[Example]:
+    for line in lines_of("zones.txt"):
+        said, words, why = line.split(" | ")
+        yield Example(f"{said}: {words} ({why})", partial(is_zone, words.split(" "), said == "a zone"))
+
+
 # ---- $GENERATE
 
 GENERATE = "zone_generate.specs"
@@ -234,4 +257,4 @@ def generations() -> Iterator[Example]:
 
 
 def every() -> list[Example]:
-    return [*order(), *records(), *files(), *further_types(), *digests(), *generations()]
+    return [*order(), *records(), *files(), *further_types(), *digests(), *zones(), *generations()]

@@ -130,15 +130,21 @@ def units_in(inside: str) -> Value:
     return list_of(found)
 
 
+def token(kind: str, inside: str) -> Value:
+    """A token of a master file."""
+    given: tuple[Value, ...] = ()
+    if kind == "blank":
+        given = (ord(inside),)
+    elif kind == "comment":
+        given = (text(inside[1:]),)
+    elif kind in ("bare", "quoted"):
+        given = (units_in(inside if kind == "bare" else inside[1:-1]),)
+    return Made(f"{TOKENS}.{kind}", given)
+
+
 def tokens_in(file: str) -> Value:
     """The tokens of a master file."""
-    found = []
-    for part in TOKEN.finditer(file):
-        kind, inside = str(part.lastgroup), part.group()
-        given = {"blank": lambda: (ord(inside),), "comment": lambda: (text(inside[1:]),), "bare": lambda: (units_in(inside),),
-                 "quoted": lambda: (units_in(inside[1:-1]),)}.get(kind, tuple)()
-        found.append(Made(f"{TOKENS}.{kind}", tuple(given)))
-    return list_of(found)
+    return list_of([token(str(part.lastgroup), part.group()) for part in TOKEN.finditer(file)])
 
 
 def raw_items(line: str) -> Value:
