@@ -34,7 +34,7 @@ enum zonenorm_kind {
     ZONENORM_FILE = 0,      /* a master file: ten types in presentation format, all in the generic form (RFC 3597) */
     ZONENORM_TRANSFER = 1,  /* a transfer as it came over TCP, each message after its length; no origin */
     ZONENORM_ALL_TYPES = 2, /* a master file: further types in presentation format too */
-    ZONENORM_FILES = 3      /* reserved for the same with $INCLUDE and $GENERATE: ZONENORM_UNSUPPORTED in this release */
+    ZONENORM_FILES = 3      /* the same with $INCLUDE and $GENERATE, and a table of the included files */
 };
 
 typedef struct zonenorm_input {
@@ -43,9 +43,9 @@ typedef struct zonenorm_input {
     uint64_t limit;            /* most octets that are read; 0 means 2^30, and so does more */
     zonenorm_octets origin;    /* of a master file, in presentation format with its final dot */
     zonenorm_octets octets;    /* the input */
-    zonenorm_octets directory; /* reserved for ZONENORM_FILES, as the following */
-    const zonenorm_octets *names; size_t names_count;
-    const zonenorm_octets *files; size_t files_count;
+    zonenorm_octets directory; /* of ZONENORM_FILES: included files are below it; UTF-8, empty if their names are relative */
+    const zonenorm_octets *names; size_t names_count; /* of included files, each as ZONENORM_WANTS_FILE gave it */
+    const zonenorm_octets *files; size_t files_count; /* their octets, in the same order; as many */
 } zonenorm_input;
 
 #define ZONENORM_INPUT_INIT {0, 0, 0, {NULL, 0}, {NULL, 0}, {NULL, 0}, NULL, 0, NULL, 0}
@@ -58,7 +58,7 @@ enum zonenorm_status {
                                  or empty if there was no memory for it */
     ZONENORM_NO_MEMORY = 4,   /* an allocation failed */
     ZONENORM_UNSUPPORTED = 5, /* a kind, an algorithm or a flag that this library doesn't have */
-    ZONENORM_WANTS_FILE = 6   /* reserved for ZONENORM_FILES */
+    ZONENORM_WANTS_FILE = 6   /* an $INCLUDE names a file that isn't among names; the text is its name and a line feed */
 };
 
 enum zonenorm_place { ZONENORM_WHOLE = 0, ZONENORM_LINE = 1, ZONENORM_MESSAGE = 2 };
@@ -78,9 +78,9 @@ typedef struct zonenorm_answer {
     uint64_t line;     /* the line or the message of the fault, from 1; the first line at which two texts differ */
     uint64_t offset;   /* in the message */
     uint64_t count;    /* records of an accepted zone, or of a difference; entries that state no data */
-    uint32_t file;     /* reserved for ZONENORM_FILES */
+    uint32_t file;     /* of ZONENORM_FILES: the file of the fault, i + 1 for files[i], 0 for octets */
     uint32_t reserved;
-    uint64_t value;    /* reserved for ZONENORM_FILES */
+    uint64_t value;    /* of ZONENORM_FILES: the value of the $GENERATE whose line has the fault */
 } zonenorm_answer;
 
 /* Returns the ABI of the library that is linked: ZONENORM_ABI. */
@@ -123,6 +123,10 @@ void zonenorm_generic(const zonenorm_input *given, zonenorm_octets *text, zoneno
 
 /* Hands out a canonical text, or a diff of two, with the data of further types in presentation format. */
 void zonenorm_words(const uint8_t *octets, size_t octets_len, zonenorm_octets *text, zonenorm_answer *answer);
+
+/* Hands out the expanded text of a master file and the files that it includes (ZONENORM_FILES), each $GENERATE as its lines. If an entry
+ * can't be expanded, the status is ZONENORM_REFUSED and the text is the line of the fault. */
+void zonenorm_expand(const zonenorm_input *given, zonenorm_octets *text, zonenorm_answer *answer);
 
 /* Frees a text. */
 static inline void zonenorm_free(zonenorm_octets *text) {

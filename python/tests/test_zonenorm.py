@@ -53,6 +53,28 @@ class Texts(unittest.TestCase):
         self.assertEqual(zonenorm.normalise(zonenorm.generic(octets("signed.zone"), "example."), "example.", words=False), canonical)
         self.assertEqual(zonenorm.words(canonical), octets("signed.words"))
 
+    def test_included_files(self) -> None:
+        main, folder = octets("files/example.zone"), str(EXAMPLES / "files")
+        name = f"{folder}/parts/web.db"
+        with self.assertRaises(zonenorm.FileWanted) as wanted:
+            zonenorm.normalise(main, "example.", files={}, directory=folder)
+        self.assertEqual(wanted.exception.names, [name])
+        files = {name: octets("files/parts/web.db")}
+        self.assertEqual(zonenorm.normalise(main, "example.", files=files, directory=folder), octets("files/example.canonical"))
+        self.assertEqual(zonenorm.expand(main, "example.", files, directory=folder), octets("files/example.expanded"))
+        zone = zonenorm.Zone.from_file(EXAMPLES / "files/example.zone", "example.", directory=folder)
+        self.assertEqual(zone.text, octets("files/example.canonical"))
+        with self.assertRaises(FileNotFoundError):
+            zonenorm.Zone.from_file(EXAMPLES / "files/missing.zone", "example.", directory=folder)
+
+    def test_a_fault_in_an_included_file(self) -> None:
+        main, files = octets("files/refused-included.zone"), {"parts/bad.db": octets("files/parts/bad.db")}
+        error = refusal(lambda: zonenorm.normalise(main, "example.", files=files))
+        self.assertEqual((error.number, error.file, error.line, error.value), (9, "parts/bad.db", 3, None))
+        self.assertEqual(error.text, "F9 BadRdata at parts/bad.db:3: the data doesn't fit its type")
+        error = refusal(lambda: zonenorm.normalise(octets("files/refused-data.zone"), "example.", files={}))
+        self.assertEqual((error.number, error.file, error.line, error.value), (9, None, 3, 256))
+
     def test_each_kind_of_buffer(self) -> None:
         data, canonical = octets("example.zone"), octets("example.canonical")
         many = memoryview(b"".join(bytes([octet, 0]) for octet in data))

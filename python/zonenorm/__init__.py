@@ -20,17 +20,17 @@ a bytearray, a memoryview or an mmap; they aren't copied if they are contiguous,
 from typing import Final
 
 from ._calls import (
-    TRANSFER, VERDICTS, Buffer, Comparison, compare, digest, generic, normalise, records, verify, words)
-from ._errors import OriginError, Refused, ZonenormError
+    TRANSFER, VERDICTS, Buffer, Comparison, compare, digest, expand, generic, normalise, records, verify, words)
+from ._errors import FileWanted, OriginError, Refused, ZonenormError
 from ._ffi import ABI as _ABI
 from ._zone import Difference, Record, Zone, diff
 
 __all__ = [
-    "ABI", "TRANSFER", "VERDICTS", "Buffer", "Comparison", "Difference", "OriginError", "Record", "Refused", "Zone",
-    "ZonenormError", "compare", "diff", "digest", "generic", "normalise", "records", "verify", "words",
+    "ABI", "TRANSFER", "VERDICTS", "Buffer", "Comparison", "Difference", "FileWanted", "OriginError", "Record", "Refused", "Zone",
+    "ZonenormError", "compare", "diff", "digest", "expand", "generic", "normalise", "records", "verify", "words",
 ]
 __version__: Final = "0.1.0"
 ABI: Final = _ABI
-for _name in ("Comparison", "Difference", "OriginError", "Record", "Refused", "Zone", "ZonenormError"):
+for _name in ("Comparison", "Difference", "FileWanted", "OriginError", "Record", "Refused", "Zone", "ZonenormError"):
     globals()[_name].__module__ = __name__
 del _name

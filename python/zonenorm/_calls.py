@@ -2,11 +2,12 @@
 from __future__ import annotations
 
 import mmap
+from collections.abc import Mapping, Sequence
 from ctypes import byref
 from typing import Final, NamedTuple
 
 from . import _ffi
-from ._errors import OriginError, Refused, ZonenormError
+from ._errors import FileWanted, OriginError, Refused, ZonenormError
 
 Buffer = bytes | bytearray | memoryview | mmap.mmap
 TRANSFER: Final = "transfer"
@@ -32,9 +33,11 @@ class Comparison(NamedTuple):
 class _Given(_ffi.Lending):
     """An input that is lent to the library."""
 
-    __slots__ = ("input",)
+    __slots__ = ("input", "names")
 
-    def __init__(self, data: Buffer, origin: str, words: bool, max_octets: int | None) -> None:
+    def __init__(
+        self, data: Buffer, origin: str, words: bool, max_octets: int | None, files: Mapping[str, bytes] | None = None, directory: str = "",
+    ) -> None:
         if max_octets is not None and max_octets < 1:
             raise ValueError("max_octets is less than 1")
         try:
@@ -44,26 +47,39 @@ class _Given(_ffi.Lending):
         super().__init__(data)
         kind = _ffi.TRANSFER if origin == TRANSFER else _ffi.ALL_TYPES if words else _ffi.FILE
         limit = min(max_octets or 0, MOST_OCTETS)
-        spelled, octets = _ffi.Lent(name, len(name)), _ffi.Lent(self.at, self.len)
-        self.input = byref(_ffi.Input(kind, 0, limit, spelled, octets))
+        given = _ffi.Input(kind, 0, limit, _ffi.Lent(name, len(name)), _ffi.Lent(self.at, self.len))
+        self.names = list(files or ())
+        if files is not None and kind != _ffi.TRANSFER:
+            folder, count = directory.encode(), len(files)
+            given.kind, given.directory, given.names_count, given.files_count = _ffi.FILES, _ffi.Lent(folder, len(folder)), count, count
+            given.names, given.files = _table([it.encode() for it in files]), _table([*files.values()])
+        self.input = byref(given)
 
 
-def _refused(answer: _ffi.Answer, text: bytes, field: str | None = None) -> Refused:
+def _table(items: list[bytes]) -> object:
+    """Return octets that are lent, one after the other."""
+    return (_ffi.Lent * len(items))(*(_ffi.Lent(it, len(it)) for it in items))
+
+
+def _refused(answer: _ffi.Answer, text: bytes, field: str | None = None, names: Sequence[str] = ()) -> Refused:
     """Return the exception for an input that is refused."""
     line, is_message = answer.line, answer.place == _ffi.MESSAGE
     return Refused(
         text.decode("ascii", "backslashreplace") or f"F{answer.fault}", answer.fault,
         line=line if answer.place == _ffi.LINE else None, message=line if is_message else None,
-        offset=answer.offset if is_message else None, which=answer.input or None, field=field)
+        offset=answer.offset if is_message else None, which=answer.input or None, field=field,
+        file=names[answer.file - 1] if answer.file else None, value=answer.value if b" value " in text else None)
 
 
-def _check(answer: _ffi.Answer, text: bytes) -> None:
+def _check(answer: _ffi.Answer, text: bytes, names: Sequence[str] = ()) -> None:
     """Raise the exception that an answer stands for, if it has no result."""
     status = answer.status
     if status in (_ffi.OK, _ffi.DIFFERENT):
         return
     if status == _ffi.REFUSED:
-        raise _refused(answer, text)
+        raise _refused(answer, text, names=names)
+    if status == _ffi.WANTS_FILE:
+        raise FileWanted(text.decode().split("\n")[:-1])
     if status == _ffi.BAD_ORIGIN:
         raise OriginError("the origin is no absolute name in presentation format, with its final dot")
     if status == _ffi.NO_MEMORY:
@@ -71,23 +87,29 @@ def _check(answer: _ffi.Answer, text: bytes) -> None:
     raise ZonenormError(f"the library answered status {status}")
 
 
-def _call(name: str, *arguments: object) -> tuple[bytes, _ffi.Answer]:
+def _call(name: str, *arguments: object, names: Sequence[str] = ()) -> tuple[bytes, _ffi.Answer]:
     """Call an export that hands out one text."""
     text, answer = _ffi.Octets(), _ffi.Answer()
     getattr(_ffi.LIBRARY, name)(*arguments, byref(text), byref(answer))
     octets = _ffi.taken(text)
-    _check(answer, octets)
+    _check(answer, octets, names)
     return octets, answer
 
 
-def normalise(data: Buffer, origin: str, *, words: bool = True, max_octets: int | None = None) -> bytes:
+def normalise(
+    data: Buffer, origin: str, *, words: bool = True, max_octets: int | None = None, files: Mapping[str, bytes] | None = None,
+    directory: str = "",
+) -> bytes:
     r"""Return the canonical text of the zone that an input denotes.
 
     The input is a master file and its origin, with the final dot, or a zone transfer and the origin TRANSFER. With words=False
     only ten types may be in presentation format, as with the command `zonenorm`; otherwise further types too. More than
     max_octets octets are refused; the default is 1 GiB.
 
-    Raises Refused, OriginError or MemoryError.
+    With files, $INCLUDE and $GENERATE are read too, and words means nothing: files has the octets of included files by their names,
+    as FileWanted lists them, and directory is the one that they are below.
+
+    Raises Refused, OriginError or MemoryError, and FileWanted if files lacks one.
 
     >>> file = b"$TTL 1h\n@ SOA ns1 hostmaster 1 2h 30m 2w 1h\n NS NS1\nns1 A 192.0.2.1\n"
     >>> print(normalise(file, "example.").decode(), end="")
@@ -95,8 +117,24 @@ def normalise(data: Buffer, origin: str, *, words: bool = True, max_octets: int 
     example. 3600 IN NS ns1.example.
     ns1.example. 3600 IN A 192.0.2.1
     """
-    with _Given(data, origin, words, max_octets) as it:
-        return _call("zonenorm_normalise", it.input)[0]
+    with _Given(data, origin, words, max_octets, files, directory) as it:
+        return _call("zonenorm_normalise", it.input, names=it.names)[0]
+
+
+def expand(data: Buffer, origin: str, files: Mapping[str, bytes], *, directory: str = "", max_octets: int | None = None) -> bytes:
+    r"""Return a master file with the files that it includes in the place of each $INCLUDE, and lines in the place of each $GENERATE.
+
+    The files are those of normalise. Raises Refused, OriginError, MemoryError or FileWanted.
+
+    >>> print(expand(b"$GENERATE 1-2 host-$ A 192.0.2.$\n$INCLUDE b.db\n", "x.", {"b.db": b"b A 192.0.2.9\n"}).decode(), end="")
+    host-1 A 192.0.2.1
+    host-2 A 192.0.2.2
+    $ORIGIN x.
+    b A 192.0.2.9
+    $ORIGIN x.
+    """
+    with _Given(data, origin, True, max_octets, files, directory) as it:
+        return _call("zonenorm_expand", it.input, names=it.names)[0]
 
 
 def compare(

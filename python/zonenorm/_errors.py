@@ -10,6 +10,17 @@ class OriginError(ZonenormError, ValueError):
     """The origin is no absolute name in presentation format, with its final dot."""
 
 
+class FileWanted(ZonenormError):
+    """An input includes files that weren't given. The attribute `names` lists them, the first that is needed first."""
+
+    def __init__(self, names: list[str]) -> None:
+        super().__init__(names)
+        self.names = names
+
+    def __str__(self) -> str:
+        return f"the input includes {', '.join(self.names)}"
+
+
 class Refused(ZonenormError, ValueError):
     """An input denotes no zone.
 

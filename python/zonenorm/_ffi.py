@@ -26,7 +26,7 @@ class Lent(Structure):
 class Input(Structure):
     _fields_ = [
         ("kind", c_uint32), ("reserved", c_uint32), ("limit", c_uint64), ("origin", Lent), ("octets", Lent),
-        ("directory", Octets), ("names", POINTER(Octets)), ("names_count", c_size_t), ("files", POINTER(Octets)),
+        ("directory", Lent), ("names", POINTER(Lent)), ("names_count", c_size_t), ("files", POINTER(Lent)),
         ("files_count", c_size_t),
     ]
 
@@ -47,6 +47,7 @@ SIGNATURES: dict[str, tuple[Any, list[Any]]] = {
     "zonenorm_records_into": (c_size_t, [_IN, c_void_p, c_size_t, _ANSWER]),
     "zonenorm_compare": (None, [_IN, _IN, _TEXT, _ANSWER]),
     "zonenorm_diff": (None, [_IN, _IN, c_uint32, _TEXT, _TEXT, _ANSWER]),
+    "zonenorm_expand": (None, [_IN, _TEXT, _ANSWER]),
     "zonenorm_verify": (None, [_IN, _TEXT, _ANSWER]),
     "zonenorm_digest": (None, [_IN, c_uint32, _TEXT, _ANSWER]),
     "zonenorm_generic": (None, [_IN, _TEXT, _TEXT, _ANSWER]),

@@ -2,10 +2,12 @@
 from __future__ import annotations
 
 import os
-from collections.abc import Iterator
+import stat
+from collections.abc import Iterator, Mapping
 from typing import NamedTuple
 
 from ._calls import MOST_OCTETS, TRANSFER, Buffer, changes, normalise, records
+from ._errors import FileWanted
 
 
 class Record(NamedTuple):
@@ -44,6 +46,14 @@ def _record(line: str) -> Record:
     return Record(owner, int(ttl), rdclass, rdtype, rdata)
 
 
+def _included(path: str) -> bytes:
+    """Return the octets of an included file, which is a regular one."""
+    if not stat.S_ISREG(os.stat(path).st_mode):
+        raise OSError(f"{path} is no regular file")
+    with open(path, "rb") as file:
+        return file.read(MOST_OCTETS + 1)
+
+
 class Zone:
     r"""A zone, which can't be changed: its canonical text and its records.
 
@@ -63,17 +73,29 @@ class Zone:
 
     __slots__ = ("_text", "_index")
 
-    def __init__(self, data: Buffer, origin: str, *, words: bool = True, max_octets: int | None = None) -> None:
-        self._text = normalise(data, origin, words=words, max_octets=max_octets)
+    def __init__(
+        self, data: Buffer, origin: str, *, words: bool = True, max_octets: int | None = None, files: Mapping[str, bytes] | None = None,
+        directory: str = "",
+    ) -> None:
+        self._text = normalise(data, origin, words=words, max_octets=max_octets, files=files, directory=directory)
         self._index: dict[str, list[Record]] | None = None
 
     @classmethod
     def from_file(
-        cls, path: str | os.PathLike[str], origin: str, *, words: bool = True, max_octets: int | None = None,
+        cls, path: str | os.PathLike[str], origin: str, *, directory: str | None = None, words: bool = True,
+        max_octets: int | None = None,
     ) -> Zone:
-        """Read a master file. Raises OSError too."""
+        """Read a master file, and with a directory the files below it that the file includes. Raises OSError too."""
         with open(path, "rb") as file:
-            return cls(file.read((max_octets or MOST_OCTETS) + 1), origin, words=words, max_octets=max_octets)
+            data = file.read((max_octets or MOST_OCTETS) + 1)
+        if directory is None:
+            return cls(data, origin, words=words, max_octets=max_octets)
+        files: dict[str, bytes] = {}
+        while True:
+            try:
+                return cls(data, origin, max_octets=max_octets, files=files, directory=directory)
+            except FileWanted as wanted:
+                files |= {name: _included(name) for name in wanted.names}
 
     @classmethod
     def from_transfer(cls, data: Buffer, *, max_octets: int | None = None) -> Zone:

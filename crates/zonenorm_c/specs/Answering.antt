@@ -10,9 +10,12 @@ use Rattle.zone_set.specs.Zone.{Zone}
 use Rattle.zonenorm_c.specs.Giving.{DenotesGiven, IsRefusalOf, IsUnread}
 use Rattle.zonenorm_c.specs.declared.answer.Answer.{Answer}
 use Rattle.zonenorm_c.specs.declared.given.Given.{Given}
+use Rattle.zone_files.specs.declared.files.stop.FilesStop.{FilesStop}
+use Rattle.zonenorm_c.specs.Files.{ReportsFilesStop}
+use Rattle.zonenorm_c.specs.declared.given.Unread.{Unread}
 use Rattle.zonenorm_c.specs.declared.given.Unread.TheVariants.{Unsupported, BadOrigin, TooLong, Memory}
 use Rattle.zonenorm_c.specs.declared.zone.Halt.{Halt}
-use Rattle.zonenorm_c.specs.declared.zone.Halt.TheVariants.{Refused, Unread}
+use Rattle.zonenorm_c.specs.declared.zone.Halt.TheVariants as halts
 
 -- the number of a place's kind, its line or message, and its offset
 abbrev pub place_of : Place → ℕ
@@ -61,18 +64,42 @@ ReportsLine fault place text answer =
 abbrev pub HasStatus : ℕ → List ℕ → Answer → Type 0
 HasStatus status text answer = (answer.status ≡ status) × (text ≡ [])
 
--- the report on an input that isn't read or is refused
+-- the report on an input that isn't read
+abbrev pub ReportsUnread : Unread → List ℕ → Answer → Type 0
+ReportsUnread TooLong text answer = ReportsLine InputTooLong Whole text answer
+ReportsUnread Unsupported text answer = HasStatus 5 text answer
+ReportsUnread BadOrigin text answer = HasStatus 2 text answer
+ReportsUnread Memory text answer = HasStatus 4 text answer
+
+-- an answer is another one but for the input that it names
+pub record IsAnswerOf (reply answer : Answer) : Type 0 where
+  pub status : answer.status ≡ reply.status
+  pub fault : answer.fault ≡ reply.fault
+  pub place : answer.place ≡ reply.place
+  pub line : answer.line ≡ reply.line
+  pub offset : answer.offset ≡ reply.offset
+  pub count : answer.count ≡ reply.count
+  pub file : answer.file ≡ reply.file
+  pub value : answer.value ≡ reply.value
+
+-- the report on an input that denotes no zone
 abbrev pub ReportsHalt : Halt → List ℕ → Answer → Type 0
-ReportsHalt (Refused fault place) text answer = ReportsLine fault place text answer
-ReportsHalt (Unread TooLong) text answer = ReportsLine InputTooLong Whole text answer
-ReportsHalt (Unread Unsupported) text answer = HasStatus 5 text answer
-ReportsHalt (Unread BadOrigin) text answer = HasStatus 2 text answer
-ReportsHalt (Unread Memory) text answer = HasStatus 4 text answer
+ReportsHalt (halts.Refused fault place) text answer = ReportsLine fault place text answer
+ReportsHalt (halts.Unread why) text answer = ReportsUnread why text answer
+ReportsHalt (halts.Files reply) text answer =
+    (text ≡ reply.text.items) × IsAnswerOf reply.answer answer
+
+-- files that a caller gives stop the call, and this is reported
+pub record IsFilesHalt (given : Given) (text : List ℕ) (answer : Answer) : Type 0 where
+  pub kind : given.kind ≡ 3
+  pub stop : FilesStop
+  pub reports : ReportsFilesStop stop text answer
 
 -- why the input that is given denotes no zone
 abbrev pub IsHalt : Given → Halt → Type 0
-IsHalt given (Refused fault place) = IsRefusalOf given fault place
-IsHalt given (Unread why) = IsUnread given why
+IsHalt given (halts.Refused fault place) = IsRefusalOf given fault place
+IsHalt given (halts.Unread why) = IsUnread given why
+IsHalt given (halts.Files reply) = IsFilesHalt given reply.text.items reply.answer
 
 -- What is answered on an input: what `Is` says of the zone that it denotes; or why it denotes
 -- none.

@@ -16,15 +16,15 @@ use Rattle.zone_rdata.specs.declared.fault.Place.{Place}
 use Rattle.zone_rdata.specs.declared.fault.Stop.{Stop}
 use Rattle.zone_rdata.specs.declared.fault.Stop.TheVariants.{Refused}
 use Rattle.zone_set.specs.Zone.{Zone}
-use Rattle.zonenorm_c.specs.Answering.{ReportsHalt, ReportsLine}
-use Rattle.zonenorm_c.specs.Compare.{number_of}
-use Rattle.zonenorm_c.specs.Giving.{IsReadAs, IsUnread}
+use Rattle.zonenorm_c.specs.Answering.{IsHalt, ReportsHalt, ReportsLine, ReportsUnread}
+use Rattle.zonenorm_c.specs.Compare.{given_of, number_of}
+use Rattle.zonenorm_c.specs.Giving.{DenotesGiven, IsReadAs, IsUnread}
 use Rattle.zonenorm_c.specs.declared.answer.Answer.{Answer}
 use Rattle.zonenorm_c.specs.declared.differing.RecordForm.{RecordForm}
 use Rattle.zonenorm_c.specs.declared.differing.RecordForm.TheVariants.{Line, Wire}
 use Rattle.zonenorm_c.specs.declared.given.Given.{Given}
 use Rattle.zonenorm_c.specs.declared.given.Unread.{Unread}
-use Rattle.zonenorm_c.specs.declared.zone.Halt.TheVariants as halts
+use Rattle.zonenorm_c.specs.declared.zone.Halt.{Halt}
 
 -- flag 1 asks for records in octets, flag 2 for names in data to be compared without regard to case
 abbrev pub form_of : ℕ → RecordForm
@@ -65,9 +65,9 @@ pub data ReportsStop (stop : Stop) (which : Which) (removed added : List ℕ) (a
         → ReportsStop stop which removed added answer
 
 -- the report on the input that isn't read
-abbrev pub ReportsUnread : Unread → Which → List ℕ → List ℕ → Answer → Type 0
-ReportsUnread why which removed added answer =
-    ReportsHalt (halts.Unread why) removed answer × (answer.input ≡ number_of which)
+abbrev pub ReportsUnreadOf : Unread → Which → List ℕ → List ℕ → Answer → Type 0
+ReportsUnreadOf why which removed added answer =
+    ReportsUnread why removed answer × (answer.input ≡ number_of which)
     × (added ≡ [])
 
 -- what the difference of these inputs answers: the records that go and those that come; one input
@@ -83,17 +83,26 @@ pub data AnswersDifference (case : NameCase) (form : RecordForm) (first second :
   no_memory : answer.status ≡ 4 → removed ≡ [] → added ≡ []
       → AnswersDifference case form first second removed added answer
 
--- what is answered on the inputs that are given: the first that isn't read is reported
+-- What is answered on the inputs that are given: the first that isn't read is reported. If one has other
+-- files, both are read one after the other, and the first that denotes no zone is reported.
 pub data AnswersGivens (case : NameCase) (form : RecordForm) (first second : Given)
     (removed added : List ℕ) (answer : Answer) : Type 0 where
   compared : (input other : Input) → IsReadAs first input → IsReadAs second other
       → AnswersDifference case form input other removed added answer
       → AnswersGivens case form first second removed added answer
   first_unread : (why : Unread) → IsUnread first why
-      → ReportsUnread why First removed added answer
+      → ReportsUnreadOf why First removed added answer
       → AnswersGivens case form first second removed added answer
   second_unread : (why : Unread) → IsUnread second why
-      → ReportsUnread why Second removed added answer
+      → ReportsUnreadOf why Second removed added answer
+      → AnswersGivens case form first second removed added answer
+  of_zones : (z w : Zone) → DenotesGiven first z → DenotesGiven second w
+      → AreTexts case form z.records w.records removed added answer
+      → AnswersGivens case form first second removed added answer
+  no_zone : (which : Which) (halt : Halt) → IsHalt (given_of first second which) halt
+      → ReportsHalt halt removed answer → answer.input ≡ number_of which → added ≡ []
+      → AnswersGivens case form first second removed added answer
+  out_of_room : answer.status ≡ 4 → removed ≡ [] → added ≡ []
       → AnswersGivens case form first second removed added answer
 
 -- what is answered by the flags of the call; this library has no others

@@ -7,12 +7,11 @@ use Rattle.zone_words.specs.Rewriter.{RewritesFile}
 use Rattle.zone_words.specs.declared.refusal.Refusal.{Refusal}
 use Rattle.zone_words.specs.declared.refusal.Refusals.{Refusals}
 use Rattle.words_print.specs.Shown.{IsShownText}
-use Rattle.zonenorm_c.specs.Answering.{ReportsHalt, HasStatus}
+use Rattle.zonenorm_c.specs.Answering.{ReportsUnread, HasStatus}
 use Rattle.zonenorm_c.specs.Giving.{IsUnread}
 use Rattle.zonenorm_c.specs.declared.answer.Answer.{Answer}
 use Rattle.zonenorm_c.specs.declared.given.Given.{Given}
 use Rattle.zonenorm_c.specs.declared.given.Unread.{Unread}
-use Rattle.zonenorm_c.specs.declared.zone.Halt.TheVariants as halts
 
 -- the report on the entries that state no data: the first, and how many there are
 abbrev pub ReportsFirst : Option Refusal → ℕ → List ℕ → Answer → Type 0
@@ -34,7 +33,7 @@ pub data AnswersGeneric (given : Given) (text reason : List ℕ) (answer : Answe
   not_a_file : given.kind ≢ 2 → text ≡ [] → HasStatus 5 reason answer
       → AnswersGeneric given text reason answer
   unread : (why : Unread) → IsUnread given why → text ≡ []
-      → ReportsHalt (halts.Unread why) reason answer → AnswersGeneric given text reason answer
+      → ReportsUnread why reason answer → AnswersGeneric given text reason answer
 
 -- the text with the data of further types in presentation format
 pub data AnswersWords (octets text : List ℕ) (answer : Answer) : Type 0 where

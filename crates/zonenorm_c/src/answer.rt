@@ -22,6 +22,9 @@ pub const NO_MEMORY: u32 = 4;
 /// This library doesn't have that kind of input, that algorithm or that flag.
 pub const UNSUPPORTED: u32 = 5;
 
+/// An `$INCLUDE` names a file that wasn't given.
+pub const WANTS_FILE: u32 = 6;
+
 /// The answer of a call, beside its text. A field that says nothing is 0.
 #[repr(C)]
 #[derive(Clone, Copy, Drop)]
@@ -41,11 +44,11 @@ pub struct Answer {
     pub offset: u64,
     /// The number of records of an accepted zone or of a difference, or of entries that state no data.
     pub count: u64,
-    /// Reserved for the file of the fault: 0.
+    /// The file of the fault, by its number in the table from 1, or 0 for the main file.
     pub file: u32,
     /// Reserved: 0.
     pub reserved: u32,
-    /// Reserved for the value of a `$GENERATE` whose line has the fault: 0.
+    /// The value of the `$GENERATE` whose line has the fault.
     pub value: u64,
 }
 

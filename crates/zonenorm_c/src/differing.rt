@@ -5,15 +5,15 @@ ghost use Rattle.zone_difference.specs.Difference.{AreOnlyIn};
 ghost use Rattle.zone_engine.specs.Form.{read_as_with};
 ghost use Rattle.zone_rdata.specs.Lent.{record_of};
 ghost use Rattle.zone_rdata.specs.Record.{Record};
-ghost use Rattle.zonenorm_c.specs.Difference.{AnswersDiff, AnswersDifference, AnswersGivens, AreTexts, ReportsStop, ReportsUnread, case_of, form_octets, form_of};
+ghost use Rattle.zonenorm_c.specs.Difference.{AnswersDiff, AnswersDifference, AnswersGivens, AreTexts, ReportsStop, ReportsUnreadOf, case_of, form_octets, form_of};
 ghost use Rattle.zonenorm_c.specs.Giving.{source_octets};
 
 use crate::answer::{ACCEPTED, Answer, DIFFERENT, NO_MEMORY, UNSUPPORTED, counted, plain};
-use crate::comparing::input_of;
-use crate::given::{Given, Readable, Unread, read_given};
+use crate::comparing::{halted_reply, input_of};
+use crate::given::{FILES, Given, Readable, Unread, read_given};
 use crate::records::push_octets;
-use crate::reply::{Reply, halt_reply, hand_out, refusal_reply, without_text};
-use crate::zone::{Halt, zone_in};
+use crate::reply::{Reply, hand_out, refusal_reply, unread_reply, without_text};
+use crate::zone::{zone_in, zone_of};
 use std::alloc::{AllocError, Global};
 use zone_difference::{Lacking, NameCase};
 use zone_engine::Which;
@@ -149,9 +149,9 @@ fn stop_texts(alloc: Global, stop: &Stop, which: Which) -> Texts
 
 /// The texts where one of two inputs isn't read.
 fn unread_texts(alloc: Global, why: Unread, which: Which) -> Texts
-    ensures { ReportsUnread why which result.removed.items result.added.items result.answer }
+    ensures { ReportsUnreadOf why which result.removed.items result.added.items result.answer }
 {
-    let mut reply = halt_reply(alloc, &Halt::Unread(why));
+    let mut reply = unread_reply(alloc, why);
     reply.answer.input = input_of(which);
     alone(alloc, reply)
 }
@@ -181,6 +181,29 @@ fn difference_texts(
     }
 }
 
+/// The texts on two inputs, by the zones that they denote.
+fn zones_texts(
+    alloc: Global,
+    first: &Given<'_>,
+    second: &Given<'_>,
+    case: NameCase,
+    form: RecordForm,
+) -> Texts
+    ensures { AnswersGivens case form first.now second.now
+        result.removed.items result.added.items result.answer }
+{
+    match zone_of(alloc, first) {
+        Err(halt) => alone(alloc, halted_reply(alloc, halt, Which::First)),
+        Ok(zone) => match zone_of(alloc, second) {
+            Err(halt) => alone(alloc, halted_reply(alloc, halt, Which::Second)),
+            Ok(other) => match texts_of(alloc, &zone, &other, case, form) {
+                Ok(texts) => texts,
+                Err(_) => alone(alloc, without_text(alloc, plain(NO_MEMORY))),
+            },
+        },
+    }
+}
+
 /// The texts on two inputs.
 fn given_texts(
     alloc: Global,
@@ -192,6 +215,9 @@ fn given_texts(
     ensures { AnswersGivens case form first.now second.now
         result.removed.items result.added.items result.answer }
 {
+    if first.kind == FILES || second.kind == FILES {
+        return zones_texts(alloc, first, second, case, form);
+    }
     match read_given(alloc, first) {
         Err(why) => unread_texts(alloc, why, Which::First),
         Ok(input) => match read_given(alloc, second) {

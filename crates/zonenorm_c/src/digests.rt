@@ -55,7 +55,7 @@ fn reply_of(alloc: Global, given: &Given<'_>) -> Reply
     ensures { Answers AreVerdicts given.now result.text.items result.answer }
 {
     match zone_of(alloc, given) {
-        Err(halt) => halt_reply(alloc, &halt),
+        Err(halt) => halt_reply(alloc, halt),
         Ok(zone) => match verdicts_reply(alloc, &zone) {
             Ok(reply) => reply,
             Err(_) => without_text(alloc, plain(NO_MEMORY)),
@@ -100,7 +100,7 @@ fn digest_reply(alloc: Global, given: &Given<'_>, algorithm: Algorithm) -> Reply
     ensures { Answers (IsWantedLine algorithm) given.now result.text.items result.answer }
 {
     match zone_of(alloc, given) {
-        Err(halt) => halt_reply(alloc, &halt),
+        Err(halt) => halt_reply(alloc, halt),
         Ok(zone) => match wanted_reply(alloc, &zone, algorithm) {
             Ok(reply) => reply,
             Err(_) => without_text(alloc, plain(NO_MEMORY)),

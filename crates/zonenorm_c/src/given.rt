@@ -19,6 +19,10 @@ pub const TRANSFER: u32 = 1;
 /// A master file with the ten types and the further types in presentation format.
 pub const ALL_TYPES: u32 = 2;
 
+/// A master file with the files that it includes (`$INCLUDE`), with `$GENERATE`, and with the ten
+/// types and the further types in presentation format.
+pub const FILES: u32 = 3;
+
 /// An input, as a caller gives it.
 #[repr(C)]
 #[derive(Clone, Copy, Drop)]
@@ -33,11 +37,11 @@ pub struct Given<'a> {
     pub origin: &'a [u8],
     /// The octets.
     pub octets: &'a [u8],
-    /// Reserved for the directory of included files.
+    /// The directory of the files that `$INCLUDE` names, empty if names are relative.
     pub directory: &'a [u8],
-    /// Reserved for the names of included files.
+    /// The names of included files, each as an `$INCLUDE` states it.
     pub names: &'a [&'a [u8]],
-    /// Reserved for their octets.
+    /// Their octets, in the same order.
     pub files: &'a [&'a [u8]],
 }
 

@@ -15,7 +15,7 @@ fn reply_of(alloc: Global, given: &Given<'_>) -> Reply
     ensures { Answers IsCanonical given.now result.text.items result.answer }
 {
     match zone_of(alloc, given) {
-        Err(halt) => halt_reply(alloc, &halt),
+        Err(halt) => halt_reply(alloc, halt),
         Ok(zone) => match push_zone(alloc, &zone) {
             Ok(text) => {
                 let answer = counted(ACCEPTED, zone.len());

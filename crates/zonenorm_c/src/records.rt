@@ -47,7 +47,7 @@ fn reply_of(alloc: Global, given: &Given<'_>) -> Reply
     ensures { Answers AreRecords given.now result.text.items result.answer }
 {
     match zone_of(alloc, given) {
-        Err(halt) => halt_reply(alloc, &halt),
+        Err(halt) => halt_reply(alloc, halt),
         Ok(zone) => match octets_of(alloc, &zone) {
             Ok(text) => {
                 let answer = counted(ACCEPTED, zone.len());

@@ -1,6 +1,6 @@
 //! The reply of a call, and its two ways out: a text that the caller frees, and the caller's room.
 ghost use Rattle.std.specs.Prelude.{◌≡◌, [], length};
-ghost use Rattle.zonenorm_c.specs.Answering.{IsPut, ReportsLine, ReportsHalt};
+ghost use Rattle.zonenorm_c.specs.Answering.{IsPut, ReportsHalt, ReportsLine, ReportsUnread};
 
 use crate::answer::{Answer, BAD_ORIGIN, NO_MEMORY, UNSUPPORTED, plain, refusal};
 use crate::given::Unread;
@@ -70,14 +70,24 @@ pub(crate) fn refusal_reply(alloc: Global, fault: &Fault, place: Place) -> Reply
 }
 
 /// The reply on an input that denotes no zone or isn't read.
-pub(crate) fn halt_reply(alloc: Global, halt: &Halt) -> Reply
-    ensures { ReportsHalt halt.now result.text.items result.answer }
+pub(crate) fn halt_reply(alloc: Global, halt: Halt) -> Reply
+    ensures { ReportsHalt halt result.text.items result.answer }
 {
     match halt {
-        Halt::Refused(fault, place) => refusal_reply(alloc, fault, *place),
-        Halt::Unread(Unread::TooLong) => refusal_reply(alloc, &Fault::InputTooLong, Place::Whole),
-        Halt::Unread(Unread::Unsupported) => without_text(alloc, plain(UNSUPPORTED)),
-        Halt::Unread(Unread::BadOrigin) => without_text(alloc, plain(BAD_ORIGIN)),
-        Halt::Unread(Unread::Memory) => without_text(alloc, plain(NO_MEMORY)),
+        Halt::Refused(fault, place) => refusal_reply(alloc, &fault, place),
+        Halt::Unread(why) => unread_reply(alloc, why),
+        Halt::Files(reply) => reply,
+    }
+}
+
+/// The reply on an input that isn't read.
+pub(crate) fn unread_reply(alloc: Global, why: Unread) -> Reply
+    ensures { ReportsUnread why result.text.items result.answer }
+{
+    match why {
+        Unread::TooLong => refusal_reply(alloc, &Fault::InputTooLong, Place::Whole),
+        Unread::Unsupported => without_text(alloc, plain(UNSUPPORTED)),
+        Unread::BadOrigin => without_text(alloc, plain(BAD_ORIGIN)),
+        Unread::Memory => without_text(alloc, plain(NO_MEMORY)),
     }
 }

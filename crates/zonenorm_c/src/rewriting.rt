@@ -6,8 +6,7 @@ ghost use Rattle.zone_words.specs.Refusal.{refusal_text};
 
 use crate::answer::{ACCEPTED, Answer, NO_MEMORY, REFUSED, UNSUPPORTED, plain};
 use crate::given::{ALL_TYPES, Given, Unread, cased_origin_in, limit_in};
-use crate::reply::{Reply, halt_reply, hand_out, without_text};
-use crate::zone::Halt;
+use crate::reply::{Reply, hand_out, unread_reply, without_text};
 use std::alloc::{AllocError, Global};
 use words_print::print_words;
 use zone_words::{Refusal, Refusals, Rewritten, rewrite_file};
@@ -96,7 +95,7 @@ pub extern "C" fn zonenorm_generic(
         }
         Err(why) => {
             *text = b"";
-            *answer = hand_out(halt_reply(alloc, &Halt::Unread(why)), reason);
+            *answer = hand_out(unread_reply(alloc, why), reason);
         }
     }
 }

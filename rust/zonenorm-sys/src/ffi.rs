@@ -68,6 +68,7 @@ extern "C" {
     pub fn zonenorm_records_into(given: *const zonenorm_input, room: *mut u8, room_len: usize, answer: *mut zonenorm_answer) -> usize;
     pub fn zonenorm_compare(first: *const zonenorm_input, second: *const zonenorm_input, text: *mut zonenorm_octets, answer: *mut zonenorm_answer);
     pub fn zonenorm_diff(first: *const zonenorm_input, second: *const zonenorm_input, flags: u32, removed: *mut zonenorm_octets, added: *mut zonenorm_octets, answer: *mut zonenorm_answer);
+    pub fn zonenorm_expand(given: *const zonenorm_input, text: *mut zonenorm_octets, answer: *mut zonenorm_answer);
     pub fn zonenorm_verify(given: *const zonenorm_input, text: *mut zonenorm_octets, answer: *mut zonenorm_answer);
     pub fn zonenorm_digest(given: *const zonenorm_input, algorithm: u32, text: *mut zonenorm_octets, answer: *mut zonenorm_answer);
     pub fn zonenorm_generic(given: *const zonenorm_input, text: *mut zonenorm_octets, reason: *mut zonenorm_octets, answer: *mut zonenorm_answer);

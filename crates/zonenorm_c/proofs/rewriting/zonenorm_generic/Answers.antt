@@ -10,4 +10,4 @@ returns-in-Ok c =
 
 pub returns-in-Err : goal.returns-in-Err
 returns-in-Err c =
-    rw (c.hand_out-in-Err.ensures.text, c.hand_out-in-Err.ensures.answer) (unread c.in-Err.why c.in-Err.ensures.unread refl c.halt_reply.ensures)
+    rw (c.hand_out-in-Err.ensures.text, c.hand_out-in-Err.ensures.answer) (unread c.in-Err.why c.in-Err.ensures.unread refl c.unread_reply.ensures)
