@@ -1,5 +1,5 @@
 -- Digits of octets, item after item.
-use Rattle.faulty_items.proofs.Common.{IsGeneric, Item, List, None, Ok, Option, RawItem, Some, StopsAt, [], ap, append-nil, append_assoc, arith, at_end, at_item, bare, codes, drop, generic_mark, get_or, inr, length, length-append, length-drop, length-map, map, option_map, quoted, raw, refl, slice_get, subst, suc, sym, take, take_all, zero, ℕ, ◌++◌, ◌+◌, ◌-◌, ◌/◌, ◌<◌, ◌∙◌, ◌∷◌, ◌≡◌, ◌≢◌, ◌≤◌}
+use Rattle.faulty_items.proofs.Common.{IsGeneric, Item, List, None, Ok, Option, RawItem, Some, StopsAt, [], ap, append-nil, append_assoc, arith, at_end, at_item, bare, codes, drop, generic_mark, get_or, inr, length, length-append, length-drop, length-map, map, option_map, quoted, raw, refl, slice_get, subst, suc, sym, take, take_all, zero, ℕ, ◌++◌, ◌+◌, ◌-◌, ◌/◌, ◌<◌, ◌∙◌, ◌∷◌, ◌≡◌, ◌≤◌}
 use Rattle.faulty_items.proofs.CanGoOn.{got}
 use Rattle.zone_rdata.proofs.Common.{decode_of, decode_of-same}
 use Rattle.zone_rdata.proofs.Items.GenericLaws.{half_length}

@@ -4,3 +4,5 @@ pub mod SpeltValues
 pub mod ShownOctets
 pub mod Reading
 pub mod Digits
+pub mod TouchingItems
+pub mod EntryParts

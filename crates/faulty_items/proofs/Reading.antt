@@ -1,5 +1,5 @@
 -- Fields of data, read one after another.
-use Rattle.faulty_items.proofs.Common.{Bool, Bor, CanGoOn, codes, Err, false, IsGeneric, IsTrue, Ok, Result, DataFails, DataItem, Field, FurtherFieldsStop, FurtherStop, Item, Labels, List, NamedField, None, Option, RawItem, Some, StateItsData, StatesData, StopsAt, TouchingItem, WordsFault, [], add-one, ap, arith, drop, drop-drop, drop_all, field_of, further_stop, given, inl, inr, joined, length, length-drop, length-map, map, option_map, raw, refl, slice_get, subst, suc, sym, take, take-map, take_all, zero, ℕ, ◌+◌, ◌-◌, ◌<◌, ◌∙◌, ◌∷◌, ◌≡◌, ◌≤◌}
+use Rattle.faulty_items.proofs.Common.{Bool, Bor, CanGoOn, codes, Err, false, IsGeneric, IsTrue, Ok, Result, DataFails, DataItem, FurtherFieldsStop, FurtherStop, Item, Labels, List, NamedField, None, Option, RawItem, Some, StateItsData, StatesData, StopsAt, TouchingItem, WordsFault, [], add-one, ap, arith, drop, drop-drop, drop_all, further_stop, given, inl, inr, joined, length, length-drop, length-map, map, option_map, raw, refl, slice_get, subst, suc, sym, take, take-map, take_all, zero, ℕ, ◌+◌, ◌-◌, ◌<◌, ◌∙◌, ◌∷◌, ◌≡◌, ◌≤◌}
 use Rattle.std.proofs.lemmas.List.{drop-map}
 use Rattle.type_data.specs.Field.{items_after, own_count, own_items}
 use Rattle.type_data.specs.Data.{IfDataFault}

@@ -1,5 +1,5 @@
 -- The octets of an item that are shown.
-use Rattle.faulty_items.proofs.Common.{List, [], ap, arith, cases_lt, codes, inl, inr, length, min, refl, subst, sym, take, take_all, ℕ, ◌++◌, ◌<◌, ◌∙◌, ◌∷◌, ◌≡◌, ◌≤◌}
+use Rattle.faulty_items.proofs.Common.{List, [], ap, arith, cases_lt, codes, inl, inr, length, min, sym, take, take_all, ℕ, ◌++◌, ◌∙◌, ◌∷◌, ◌≡◌, ◌≤◌}
 use Rattle.std.specs.List.{flat_map}
 use Rattle.faulty_items.specs.ShownItem.{shown_octet}
 

@@ -1,12 +1,12 @@
 -- Texts and items that spell a value of a field, or none.
-use Rattle.faulty_items.proofs.Common.{Err, Item, Labels, List, None, NothingIs, Ok, RawItem, Result, Some, [], ap, arith, at_end, at_item, bare, false, get_or, inl, inr, length, length-append, length-map, map, raw, refl, slice_get, subst, suc, sym, take, take_all, true, zero, ℕ, ◌++◌, ◌+◌, ◌<◌, ◌∙◌, ◌∷◌, ◌≡◌, ◌≤◌, ◌⊎◌}
+use Rattle.faulty_items.proofs.Common.{Err, Item, Labels, List, None, NothingIs, Ok, RawItem, Result, Some, [], ap, arith, at_end, at_item, bare, get_or, inl, inr, length, length-append, length-map, map, raw, refl, slice_get, subst, suc, sym, take, take_all, zero, ℕ, ◌++◌, ◌+◌, ◌<◌, ◌∙◌, ◌∷◌, ◌≡◌, ◌≤◌, ◌⊎◌}
 use Rattle.faulty_items.proofs.CanGoOn.{got}
 use Rattle.faulty_items.proofs.Digits.{next_taken}
 use Rattle.std.specs.List.{AllZip}
 use Rattle.zone_name.specs.Spelling.{Spells}
 use Rattle.zone_rdata.proofs.Numbers.TimeLaws.{one_time}
 use Rattle.zone_rdata.proofs.Strings.StringLaws.{string-never_both}
-use Rattle.zone_rdata.specs.Field.{FieldValue, fixed, name, own_items, string, strings, u16_value, u32_value}
+use Rattle.zone_rdata.specs.Field.{fixed, name, string, strings, u16_value, u32_value}
 use Rattle.zone_rdata.specs.Address.{IsIpv4Address, IsIpv6Address}
 use Rattle.zone_rdata.specs.Fields.Address.{IsAddress, of_ipv4, of_ipv6}
 use Rattle.zone_rdata.specs.Fields.Time.{SpellsTime}

@@ -4,6 +4,7 @@ pub mod GenericStop
 pub mod FieldNames
 pub mod LaidOutStop
 pub mod FurtherStop
+pub mod EntryStop
 pub mod Coded
 pub mod ShownItem
 pub mod Machine

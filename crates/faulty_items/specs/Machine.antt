@@ -1,3 +1,4 @@
 -- What only private functions and proofs cite.
 pub mod FurtherReading
 pub mod LaidOutReading
+pub mod EntryReading

@@ -1,13 +1,12 @@
-//! Where a reading of an entry's data stops: the type and the field, and the item as a line shows it.
-use faulty_items::{ShownItem, further_stop, laid_out_stop, write_item};
+//! Where a reading of an entry stops: the type and the field, and the item as a line shows it.
+use faulty_items::{EntryStop, ShownItem, entry_stop, write_item};
 use std::alloc::Global;
 use std::test::Fail;
-use test_support::{Question, check_lines, check_octets};
-use type_data::{DataItem, further_type_of, type_mnemonic};
+use test_support::{Question, check_lines, check_octets, check_table};
+use type_data::type_mnemonic;
 use zone_name::CasedName;
 use zone_print::OctetVec;
-use zone_rdata::{Class, Item, Kind, is_generic};
-use zone_text::{entry_items, record_parts, split_bare};
+use zone_rdata::{Class, Item};
 
 /// The octets of an item.
 fn text_of(item: Item<'_>) -> &[u8] {
@@ -28,39 +27,20 @@ fn push_place(number: u16, field: &str, text: &str, out: &mut Vec<u8>) -> Result
     Ok(())
 }
 
-/// The items of data, none of which directly follows another.
-fn data_items<'e>(alloc: Global, items: &[Item<'e>]) -> Result<Vec<DataItem<'e>>, Fail> {
-    let mut found = Vec::new(alloc);
-    for item in items {
-        found.push(DataItem {
-            item: *item,
-            touches: false,
-        })?;
-    }
-    Ok(found)
-}
-
-/// Where the data of the entry stops, under `example.` and in class IN.
+/// Where the entry stops, under `example.` and after a record of class IN.
 struct Stop;
 
 impl Question for Stop {
     fn answer(alloc: Global, asked: &'static str, out: &mut Vec<u8>) -> Result<(), Fail> {
         let origin = CasedName::from_text(b"example.", None).map_err(|_| "example.")?;
-        let mut items = Vec::new(alloc);
-        entry_items(asked.as_bytes(), &mut items)?;
-        let (word, rest) = split_bare(record_parts(&items[1..]).rest).ok_or(asked)?;
-        let further = further_type_of(word).filter(|_| !is_generic(rest));
-        let item = match further {
-            Some(row) => {
-                let stop = further_stop(alloc, &row.fields, &data_items(alloc, rest)?, &origin)?;
-                push_place(row.number, stop.field, stop.fault.text(), out)?;
+        let item = match entry_stop(alloc, asked.as_bytes(), Class::internet(), &origin)? {
+            EntryStop::BeforeData(item) => item,
+            EntryStop::Data(number, stop) => {
+                push_place(number, stop.field, "", out)?;
                 stop.item
             }
-            None => {
-                let kind = Kind::from_word(word).map_err(|_| asked)?;
-                let class = Class::internet();
-                let stop = laid_out_stop(alloc, class, kind, rest, &origin.folded())?;
-                push_place(kind.number(), stop.field, "", out)?;
+            EntryStop::FurtherData(number, stop) => {
+                push_place(number, stop.field, stop.fault.text(), out)?;
                 stop.item
             }
         };
@@ -100,6 +80,7 @@ a RRSIG A 8 2 3600 20260101000000 20250101000000 1 example. AA== AAAA => RRSIG, 
 64: \"AAAA\"
 a NSEC b A NOTYPE MX => NSEC, types: not a type: \"NOTYPE\"
 a HTTPS 1 . alpn=h2 port=x key7=y => HTTPS, parameters: not a value: \"port=x\"
+a HTTPS 1 . alpn=\"h2\" port=\"1\" port=\"2\" => HTTPS, parameters: a repeated key: \"port=\"
 a HTTPS 1 . mandatory=alpn port=1 => HTTPS, parameters: a mandatory key is missing
 a LOC 52 22 23.000 X 4 53 32.000 E -2.00m => LOC, data: not a location: \"X\"
 a LOC 52 22 23.000 N 4 53 32.000 E => LOC, data: not a location
@@ -116,11 +97,32 @@ a DNSKEY 256 3 RSASHA999 AwEA => DNSKEY, algorithm: not a number: \"RSASHA999\"
 a TYPE731 \\# x 0a => TYPE, length: \"x\"
 a TYPE731 \\# 2 0a 0 0b => TYPE, data: \"0\"
 a TYPE731 \\# 4 0a00 => TYPE, data
-a TYPE731 words => TYPE, data: \"words\"";
+a TYPE731 words => TYPE, data: \"words\"
+a DS \\# 2 0a 0b 0c => DS, data: \"0c\"
+a CH A 192.0.2.1 => A, data: \"192.0.2.1\"
+a NOTYPE 1 => : \"NOTYPE\"
+a CH HTTPS 1 . => : \"HTTPS\"
+a 1x A 192.0.2.1 => : \"1x\"
+a 1x CLASS0 A 192.0.2.1 => : \"1x\"
+a CLASS0 1x A 192.0.2.1 => : \"CLASS0\"
+a \"A\" 192.0.2.1 => : \"A\"
+a IN 60 =>\x20
+a..b A 192.0.2.1 => : \"a..b\"
+ A 192.0.2.256 => A, address: \"192.0.2.256\"
+$TTL 1x => : \"1x\"
+$ORIGIN a b => : \"b\"
+$TTL =>\x20";
+
+/// Entries of more lines than one.
+const LONG_STOPS: &str = "\
+== a ( ; no
+ A 192.0.2.x )=>A, address: \"192.0.2.x\"\
+";
 
 #[test]
 fn stops(rt: HostRuntime) -> Result<(), Fail> {
-    check_lines::<Stop>(rt.alloc(), STOPS)
+    check_lines::<Stop>(rt.alloc(), STOPS)?;
+    check_table::<Stop>(rt.alloc(), LONG_STOPS)
 }
 
 /// What a line shows of long items and of octets that don't stand for themselves.

@@ -1,4 +1,4 @@
-use Rattle.faulty_items.proofs.Common.{arith, field_of, given, length, map, refl, ◌+◌, ◌-◌}
+use Rattle.faulty_items.proofs.Common.{arith, field_of, given, map, refl, ◌+◌}
 use Rattle.type_data.specs.Table.{fields_in, of_code}
 use Rattle.faulty_items.proofs.Reading.{fault_told, further_answer, further_ended, further_more, further_parts, one_at}
 use Rattle.faulty_items.proofs.further.further_stop.Goals as goal

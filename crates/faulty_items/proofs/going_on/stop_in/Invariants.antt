@@ -1,4 +1,4 @@
-use Rattle.faulty_items.proofs.Common.{CanGoOn, NamedField, [], field_of, given, length, map, take, ℕ, ◌-◌, ◌<◌, ◌∷◌, ◌≡◌, ◌≤◌, ◌⊎◌}
+use Rattle.faulty_items.proofs.Common.{CanGoOn, NamedField, [], field_of, given, length, map, take, ◌-◌, ◌<◌, ◌∷◌, ◌≡◌, ◌≤◌, ◌⊎◌}
 use Rattle.faulty_items.proofs.going_on.stop_in.Given as goal
 
 abbrev pub invariant-loop-high : goal.invariant-loop-high

@@ -1,4 +1,4 @@
-use Rattle.faulty_items.proofs.Common.{arith, length, map, raw, refl, sym, ◌+◌, ◌-◌, ◌∙◌}
+use Rattle.faulty_items.proofs.Common.{arith, refl, sym, ◌+◌, ◌∙◌}
 use Rattle.zone_rdata.specs.Layout.{fields_of}
 use Rattle.faulty_items.specs.FieldNames.{field_name}
 use Rattle.faulty_items.proofs.CanGoOn.{within_got}

@@ -1,4 +1,3 @@
-use Rattle.faulty_items.proofs.Common.{sym}
 use Rattle.zone_rdata.specs.Fields.Address.{of_ipv6}
 use Rattle.faulty_items.proofs.SpeltValues.{of_four, of_sixteen}
 use Rattle.faulty_items.proofs.spelling.is_address.Goals as goal

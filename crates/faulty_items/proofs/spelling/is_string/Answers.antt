@@ -1,4 +1,3 @@
-use Rattle.zone_rdata.proofs.Strings.StringLaws.{string-never_both}
 use Rattle.zone_rdata.specs.Item.{raw}
 use Rattle.faulty_items.proofs.SpeltValues.{no_string}
 use Rattle.faulty_items.proofs.spelling.is_string.Goals as goal
