@@ -3,7 +3,7 @@ _zonectl() {
     local word=${COMP_WORDS[COMP_CWORD]} before=${COMP_WORDS[COMP_CWORD - 1]} options=''
     COMPREPLY=()
     if [ "$COMP_CWORD" -eq 1 ]; then
-        mapfile -t COMPREPLY < <(compgen -W 'check completion diff fetch normalise normalize sum zonemd --help --version -V -h' -- "$word")
+        mapfile -t COMPREPLY < <(compgen -W 'check completion diff fetch fleet normalise normalize sum zonemd --help --version -V -h' -- "$word")
         return
     fi
     case ${COMP_WORDS[1]}:$before in
@@ -11,13 +11,15 @@ _zonectl() {
         check:--color) mapfile -t COMPREPLY < <(compgen -W 'auto always never' -- "$word") && return ;;
         check:--origin-from) mapfile -t COMPREPLY < <(compgen -W 'name text' -- "$word") && return ;;
         completion:--color) mapfile -t COMPREPLY < <(compgen -W 'auto always never' -- "$word") && return ;;
-        completion:completion) mapfile -t COMPREPLY < <(compgen -W 'bash' -- "$word") && return ;;
+        completion:completion) mapfile -t COMPREPLY < <(compgen -W 'bash zsh fish' -- "$word") && return ;;
         diff:-i|diff:--ignore) mapfile -t COMPREPLY < <(compgen -W 'serial ttl dnssec' -- "$word") && return ;;
         diff:-n|diff:--lines) mapfile -t COMPREPLY < <(compgen -W 'all' -- "$word") && return ;;
         diff:--format) mapfile -t COMPREPLY < <(compgen -W 'text json patch nsupdate github' -- "$word") && return ;;
         diff:--color) mapfile -t COMPREPLY < <(compgen -W 'auto always never' -- "$word") && return ;;
         diff:--origin-from) mapfile -t COMPREPLY < <(compgen -W 'name text' -- "$word") && return ;;
         fetch:--color) mapfile -t COMPREPLY < <(compgen -W 'auto always never' -- "$word") && return ;;
+        fleet:--color) mapfile -t COMPREPLY < <(compgen -W 'auto always never' -- "$word") && return ;;
+        fleet:fleet) mapfile -t COMPREPLY < <(compgen -W 'run report merge' -- "$word") && return ;;
         normalise:--color) mapfile -t COMPREPLY < <(compgen -W 'auto always never' -- "$word") && return ;;
         normalise:--origin-from) mapfile -t COMPREPLY < <(compgen -W 'name text' -- "$word") && return ;;
         normalize:--color) mapfile -t COMPREPLY < <(compgen -W 'auto always never' -- "$word") && return ;;
@@ -33,6 +35,7 @@ _zonectl() {
         completion) options='--color --help --output --quiet --version -V -h -o -q' ;;
         diff) options='--color --deadline --exact --format --help --ignore --json --key --lines --max-size --origin --origin-from --output --parts --presentation --quiet --require-zonemd --run-deadline --since --timeout --tls-ca --tls-client --tls-name --tls-no-verify --version -O -V -e -h -i -k -n -o -p -q -t -z' ;;
         fetch) options='--color --deadline --help --json --key --max-size --output --partial --quiet --run-deadline --timeout --tls-ca --tls-client --tls-name --tls-no-verify --version -V -h -k -o -q -t' ;;
+        fleet) options='--check-config --color --config --exit-zero --full --help --html --jobs --max-size --metrics --output --part --quiet --results --verbose --version -V -c -h -j -o -q' ;;
         normalise) options='--archive --color --deadline --fold --help --json --key --max-size --origin --origin-from --output --output-dir --presentation --quiet --run-deadline --textconv --timeout --tls-ca --tls-client --tls-name --tls-no-verify --version -O -V -h -k -o -p -q -t' ;;
         normalize) options='--archive --color --deadline --fold --help --json --key --max-size --origin --origin-from --output --output-dir --presentation --quiet --run-deadline --textconv --timeout --tls-ca --tls-client --tls-name --tls-no-verify --version -O -V -h -k -o -p -q -t' ;;
         sum) options='--check --color --deadline --fold --help --jobs --json --key --max-size --origin --origin-from --output --quiet --run-deadline --timeout --tls-ca --tls-client --tls-name --tls-no-verify --version -O -V -h -j -k -o -q -t' ;;

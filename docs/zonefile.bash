@@ -4,7 +4,7 @@ _zonefile() {
     local at place=0 words=
     COMPREPLY=()
     if ((COMP_CWORD == 1)); then
-        mapfile -t COMPREPLY < <(compgen -W 'normalise explain compare expand help --help --version' -- "$word")
+        mapfile -t COMPREPLY < <(compgen -W 'normalise explain compare diff expand help --help --version' -- "$word")
         return
     fi
     if [ "$before" = --directory ]; then
@@ -15,6 +15,7 @@ _zonefile() {
     if [[ $word == -* ]]; then
         words='--directory --help'
         [ "$command" = normalise ] && words="--words $words"
+        [ "$command" = diff ] && words="--exact --generic $words"
         mapfile -t COMPREPLY < <(compgen -W "$words" -- "$word")
         return
     fi
@@ -27,9 +28,9 @@ _zonefile() {
         esac
     done
     case $command:$place in
-        help:0) words='normalise explain compare expand' ;;
-        normalise:0 | explain:0 | compare:0 | compare:2) words=transfer ;;
-        normalise:1 | explain:1 | expand:1 | compare:1 | compare:3)
+        help:0) words='normalise explain compare diff expand' ;;
+        normalise:0 | explain:0 | compare:[02] | diff:[02]) words=transfer ;;
+        normalise:1 | explain:1 | expand:1 | compare:[13] | diff:[13])
             compopt -o filenames 2> /dev/null
             mapfile -t COMPREPLY < <(compgen -f -- "$word")
             return

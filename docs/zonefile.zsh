@@ -7,6 +7,7 @@ _zonefile() {
         'normalise:write the canonical text of the zone'
         'explain:report how many records the zone has, or why and where it is refused'
         'compare:report whether two inputs hold one zone'
+        'diff:write the records by which two zones differ'
         'expand:write one master file of the file and those that it includes'
         'help:print help'
     )
@@ -33,7 +34,12 @@ _zonefile() {
                     _arguments $options '1:origin:(transfer)' '2:file:_files' \
                         '3:origin:(transfer)' '4:file:_files'
                     ;;
-                help) _arguments '1:command:(normalise explain compare expand)' ;;
+                diff)
+                    _arguments $options '--exact[compare names in data octet by octet]' \
+                        '--generic[write further types in the generic form]' \
+                        '1:origin:(transfer)' '2:file:_files' '3:origin:(transfer)' '4:file:_files'
+                    ;;
+                help) _arguments '1:command:(normalise explain compare diff expand)' ;;
             esac
             ;;
     esac

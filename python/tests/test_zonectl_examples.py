@@ -2,14 +2,17 @@
 from __future__ import annotations
 
 import os
+import re
 import shutil
 import stat
 import subprocess
 import sys
+import unittest
 from collections.abc import Iterator
 
 from zonectl_support import EXAMPLES, HERE, InFolder, drips, environment, sends, serving
 
+README = HERE.parents[1] / "README.md"
 SESSION = HERE / "zonectl_session.txt"
 AXFR = (EXAMPLES / "example.axfr").read_bytes()
 
@@ -58,5 +61,12 @@ class Examples(InFolder):
             self.assertGreater(number, 15)
             self.assertEqual(len(dripping.queries), 1)
 
-    def test_what_comes_later_says_so(self) -> None:
-        self.assertEqual(self.run_by_sh("zonectl fleet"), "zonectl: the subcommand fleet isn't in this version\n[2]")
+    @unittest.skipUnless(README.exists(), "the documents aren't beside the tests")
+    def test_the_first_screen_of_the_readme(self) -> None:
+        blocks = re.findall(r"^    \$ (zonectl .*)\n((?:    (?!\$).*\n)*)", README.read_text(), re.M)
+        self.assertEqual({command.split()[1] for command, _ in blocks}, {"diff", "check", "sum"})
+        with serving(sends(AXFR)) as server:
+            for command, text in blocks:
+                with self.subTest(command):
+                    came = self.run_by_sh(command.replace("//192.0.2.53/", f"//127.0.0.1:{server.port}/"))
+                    self.assertEqual(came.rpartition("[")[0], re.sub("^    ", "", text, flags=re.M))

@@ -242,17 +242,6 @@ class Drawn(InFolder):
                 self.assertEqual(presented.count("\n"), it.out.count("\n"))
                 self.assertNotIn("TYPE257", presented)
 
-    @unittest.skipUnless((TOP / "commands/to_nsupdate").exists(), "to_nsupdate isn't beside the tests")
-    def test_updates_are_those_of_to_nsupdate(self) -> None:
-        for number, (a, b) in enumerate(self.pairs()):
-            with self.subTest(number):
-                self.write("one", a)
-                self.write("two", b)
-                it = ran("diff", "--exact", "--format=nsupdate", "one", "two")
-                wanted = subprocess.run([TOP / "commands/to_nsupdate", "one", "two"], capture_output=True, text=True)
-                self.assertEqual(it.out, wanted.stdout)
-                self.assertEqual(it.err.count("\n"), wanted.stderr.count("\n"))
-
     def test_texts_and_objects_count_the_same(self) -> None:
         for a, b in self.pairs():
             self.write("one", a)

@@ -15,7 +15,6 @@ from zonectl_support import (
 
 from zonectl import transfer, tsig
 from zonectl.bounds import Limits
-from zonectl.errors import Failure, Refusal
 from zonectl.names import wire_name
 
 AXFR = (EXAMPLES / "example.axfr").read_bytes()
@@ -357,11 +356,6 @@ class Pieces(unittest.TestCase):
 
             taken = transfer.capture(Pieces_(), query, None, Limits(), kept.extend)
             self.assertEqual((bytes(kept), taken), (AXFR, 4))
-
-    def test_statuses(self) -> None:
-        self.assertTrue(issubclass(transfer.WrongSignature, Refusal))
-        self.assertTrue(issubclass(transfer.Stopped, Failure))
-        self.assertEqual((int(transfer.WrongSignature.status), int(transfer.Stopped.status)), (3, 4))
 
 
 class Decoding(InFolder):

@@ -7,6 +7,7 @@ import gzip
 import lzma
 import os
 import re
+import shutil
 import subprocess
 import unittest
 from pathlib import Path
@@ -320,8 +321,18 @@ class CommandLines(unittest.TestCase):
 
     @unittest.skipUnless((TOP / "docs").is_dir(), "the documents aren't beside the tests")
     def test_the_completion_is_the_parsers(self) -> None:
+        for shell in ("bash", "zsh", "fish"):
+            stored = TOP / f"docs/zonectl.{shell}"
+            text = ran("completion", shell).out
+            self.assertEqual(text, stored.read_text())
+            for name in main.COMMANDS:
+                for action in main.module_of(name).parser().options():
+                    for option in action.option_strings:
+                        self.assertIn(option if shell != "fish" else f"-{'l' if option[1] == '-' else 's'} {option.lstrip('-')}", text)
+            if shutil.which(shell):
+                it = subprocess.run([shell, "-n", str(stored)], capture_output=True, text=True)
+                self.assertEqual((it.returncode, it.stderr), (0, ""))
         stored = TOP / "docs/zonectl.bash"
-        self.assertEqual(ran("completion", "bash").out, stored.read_text())
         for words, wanted in (("zonectl d", "diff"), ("zonectl sum --che", "--check"), ("zonectl diff --format g", "github"),
                               ("zonectl diff --tls-n", "--tls-name --tls-no-verify"), ("zonectl zonemd v", "verify"),
                               ("zonectl check --format g", "github"), ("zonectl diff -i d", "dnssec"), ("zonectl check --li", "--lint --list")):

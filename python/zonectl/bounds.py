@@ -23,12 +23,12 @@ def seconds(text: str) -> float:
     return float(found[1]) * UNITS[found[2]]
 
 
-def octets(text: str) -> int:
+def octets(text: str, most: int = MOST_OCTETS) -> int:
     """Returns the octets of a SIZE: `1000`, `64K`, `128M`, `1G`. Raises ValueError."""
     found = re.fullmatch(r"(\d{1,12})([KMG]?)", text, re.A)
     number = int(found[1]) * SIZES[found[2]] if found else 0
-    if not 1 <= number <= MOST_OCTETS:
-        raise ValueError(f"not a size from 1 to 1G: {text} (octets, or a number with K, M or G)")
+    if not 1 <= number <= most:
+        raise ValueError(f"not a size from 1 to {most >> 30}G: {text} (octets, or a number with K, M or G)")
     return number
 
 
@@ -41,6 +41,10 @@ def whole(most: int) -> Callable[[str], int]:
         return int(text)
 
     return number
+
+
+class RanOut(Undone):
+    """A wait or a deadline ran out."""
 
 
 @dataclass(frozen=True)
@@ -77,12 +81,12 @@ class Clock:
         return time.monotonic() - self.began
 
     def check(self, early: float = 0.0) -> None:
-        """Raises Undone if the deadline of the source or of the command has passed, or will within `early` seconds."""
+        """Raises RanOut if the deadline of the source or of the command has passed, or will within `early` seconds."""
         now = time.monotonic() + early
         if now >= self.ends:
-            raise Undone(f"{self.what} took longer than {duration(self.limits.deadline)} (--deadline)")
+            raise RanOut(f"{self.what} took longer than {duration(self.limits.deadline)} (--deadline)")
         if now >= self.run_ends:
-            raise Undone(f"the command took longer than {duration(self.limits.run_deadline)} (--run-deadline)")
+            raise RanOut(f"the command took longer than {duration(self.limits.run_deadline)} (--run-deadline)")
 
     def left(self) -> float | None:
         """Returns the seconds until the nearer deadline; None if there is none. Raises Undone."""
@@ -98,8 +102,4 @@ class Clock:
     def silence(self) -> Undone:
         """Returns the failure of a wait that ran out."""
         self.check(early=0.01)  # a wait may end a little before its time
-        return Silent(f"nothing came for {duration(self.limits.timeout)} (--timeout)")
-
-
-class Silent(Undone):
-    """A server sent nothing for as long as it may."""
+        return RanOut(f"nothing came for {duration(self.limits.timeout)} (--timeout)")

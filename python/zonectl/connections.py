@@ -28,6 +28,10 @@ class Unreached(Undone):
     """Why a server can't be reached."""
 
 
+class Lost(Undone):
+    """A connection ended or broke."""
+
+
 def network_reason(error: OSError) -> str:
     """Returns what went wrong with a connection, for people."""
     if isinstance(error, ssl.SSLCertVerificationError):
@@ -43,6 +47,7 @@ class Connection(io.RawIOBase):
 
     def __init__(self, connected: socket.socket, clock: Clock) -> None:
         self.socket, self.clock = connected, clock
+        self.rest = bytearray()  # what came and wasn't asked for yet
 
     @contextmanager
     def _waiting(self) -> Iterator[None]:
@@ -52,7 +57,7 @@ class Connection(io.RawIOBase):
         except TimeoutError:
             raise self.clock.silence() from None
         except OSError as error:
-            raise Undone(network_reason(error)) from None
+            raise Lost(network_reason(error)) from None
 
     def recv(self, count: int) -> bytes:
         """Returns the next octets, at most `count`; none at the end."""
@@ -118,13 +123,12 @@ def _connected(address: tuple[Any, ...], name: str, context: ssl.SSLContext | No
     return made
 
 
-@contextmanager
-def connected(host: str, port: int, name: str, context: ssl.SSLContext | None, clock: Clock) -> Iterator[Connection]:
+def connect(host: str, port: int, name: str, context: ssl.SSLContext | None, clock: Clock) -> Connection:
     """Connects to a host: its addresses are tried in order. Raises Unreached, or what a deadline raises."""
     reason = ""
     for address in addresses(host, port, clock):
         try:
-            connection = Connection(_connected(address, name, context, clock), clock)
+            return Connection(_connected(address, name, context, clock), clock)
         except TimeoutError:
             clock.check(early=0.01)
             reason = f"no answer within {duration(clock.limits.timeout)} (--timeout)"
@@ -132,10 +136,13 @@ def connected(host: str, port: int, name: str, context: ssl.SSLContext | None, c
             reason = network_reason(error)
         except ValueError:  # of a name that TLS can't send
             reason = "its name isn't one that a certificate can have"
-        else:
-            break
-    else:
-        raise Unreached(reason)
+    raise Unreached(reason)
+
+
+@contextmanager
+def connected(host: str, port: int, name: str, context: ssl.SSLContext | None, clock: Clock) -> Iterator[Connection]:
+    """Connects to a host as long as it is needed."""
+    connection = connect(host, port, name, context, clock)
     try:
         yield connection
     finally:

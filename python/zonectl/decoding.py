@@ -77,14 +77,14 @@ def _records(octets: bytes) -> Iterator[Record]:
             raise Malformed("a message isn't one of this transfer")
         at += 2 + length
         asked = question(message) or asked
-        for record in _answers(message):
+        for record in answers(message):
             first = first or record
             if asked and asked != (first.owner.lower(), AXFR, first.rdclass):
                 raise Malformed("question and zone don't agree")
             yield record
 
 
-def _answers(message: bytes) -> Iterator[Record]:
+def answers(message: bytes) -> Iterator[Record]:
     """Yields the answers of a message. A TSIG record may follow them."""
     end = after_questions(message)
     for begin, section, kind in records(message, 3):

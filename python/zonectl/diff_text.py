@@ -6,7 +6,7 @@ from collections.abc import Iterator
 from typing import Any
 
 from .difference import Difference, RRset, by_owner, soa_changes
-from .texts import ALARM, GREEN, RED, YELLOW, alarm, coloured, counted, safe
+from .texts import alarm, counted, safe
 from .zones import Copy
 
 ORDER = {"equal": "", "unordered": "; the serials can't be ordered (RFC 1982)"}
@@ -22,25 +22,23 @@ def same_line(found: Difference) -> str:
     return f"same{ignored}, {serials}, {records}{case}"
 
 
-def changes(it: RRset, is_on: bool) -> Iterator[str]:
+def changes(it: RRset) -> Iterator[str]:
     """Yields the lines of an RRset that differs."""
     if it.kind == "SOA" and it.removed and it.added:
-        for name, old, new in soa_changes(it):
-            yield coloured(f"  ~ SOA {name} {old} -> {new}", YELLOW, is_on)
+        yield from (f"  ~ SOA {name} {old} -> {new}" for name, old, new in soa_changes(it))
         return
     if it.is_ttl_changed:
-        yield coloured(f"  ~ {it.shown} TTL {it.ttl_a} -> {it.ttl_b}", YELLOW, is_on)
-    for sign, colour, rows in (("-", RED, it.gone), ("+", GREEN, it.come)):
-        for ttl, kind, data in rows:
-            yield coloured(f"  {sign} {ttl} {kind} {data}".rstrip(), colour, is_on)
+        yield f"  ~ {it.shown} TTL {it.ttl_a} -> {it.ttl_b}"
+    for sign, rows in (("-", it.gone), ("+", it.come)):
+        yield from (f"  {sign} {ttl} {kind} {data}".rstrip() for ttl, kind, data in rows)
 
 
-def head(found: Difference, is_on: bool) -> list[str]:
-    """Returns the first lines of a difference."""
-    lines = [coloured(alarm(found.a.serial), ALARM, is_on)] if found.is_alarm else []
-    for sign, colour, copy in (("---", RED, found.a), ("+++", GREEN, found.b)):
-        lines.append(coloured(f"{sign} {safe(copy.source)}: serial {copy.serial}, {counted(copy.records, 'record')}", colour, is_on))
-    return lines
+def head(found: Difference) -> Iterator[str]:
+    """Yields the first lines of a difference."""
+    if found.is_alarm:
+        yield alarm(found.a.serial)
+    for sign, copy in (("---", found.a), ("+++", found.b)):
+        yield f"{sign} {safe(copy.source)}: serial {copy.serial}, {counted(copy.records, 'record')}"
 
 
 def last_line(found: Difference) -> str:
@@ -52,17 +50,17 @@ def last_line(found: Difference) -> str:
     return f"{number} {what}: {counted(found.only_a, 'record')} only in {a}, {found.only_b} only in {b}{newer}"
 
 
-def text_of(found: Difference, most: int | None, is_on: bool = False) -> str:
+def text_of(found: Difference, most: int | None) -> str:
     """Returns the difference as text; `most` lines between head and last line, None for all."""
     if not found.rrsets:
         return same_line(found) + "\n"
     body: list[str] = []
     for owner, rrsets in by_owner(found.rrsets):
         body.append(owner)
-        body += [line for it in rrsets for line in changes(it, is_on)]
+        body += [line for it in rrsets for line in changes(it)]
     shown = body if most is None else body[:most]
     more = [f".. {counted(len(body) - len(shown), 'more line')} (--lines all shows them)"] if len(body) > len(shown) else []
-    return "".join(f"{line}\n" for line in [*head(found, is_on), *shown, *more, last_line(found)])
+    return "".join(f"{line}\n" for line in [*head(found), *shown, *more, last_line(found)])
 
 
 def github_of(found: Difference, most: int | None) -> str:

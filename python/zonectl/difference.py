@@ -8,6 +8,7 @@ from itertools import groupby
 from . import engine
 from .folding import FOLDED, folded
 from .names import canonical_order
+from .types import OF_SIGNERS, in_the_text, type_number
 from .types import OF_THE_TEXT as TYPES
 from .zones import Copy
 
@@ -24,6 +25,18 @@ class Ignored:
     serial: bool = False
     ttl: bool = False
     types: frozenset[bytes] = frozenset()  # as the canonical text has them
+
+
+def ignored(text: str) -> Ignored:
+    """Returns what a LIST leaves out: serial, ttl, dnssec or types. Raises ValueError."""
+    names = tuple(it for it in text.split(",") if it)
+    types: set[int] = set()
+    for name in names:
+        if name == "dnssec":
+            types |= OF_SIGNERS
+        elif name not in ("serial", "ttl"):
+            types.add(type_number(name))
+    return Ignored(names, "serial" in names, "ttl" in names, frozenset(in_the_text(it).encode() for it in types))
 
 
 @dataclass
@@ -170,14 +183,10 @@ def _change_ttl(it: RRset, sides: Sides) -> None:
     it.added = [line for key, line in data[1].items() if key not in data[0]]
 
 
-def presented(lines: Iterable[bytes]) -> list[Row]:
-    """Returns TTL, type and RDATA of canonical lines, all types in presentation format."""
-    return [(ttl, kind, data) for _, ttl, _, kind, data in engine.presented(b"".join(it + b"\n" for it in lines))]
-
-
 def _present(rrsets: list[RRset]) -> None:
     """Puts RRsets in presentation format, by one call for all."""
-    rows = iter(presented(line for it in rrsets for line in (it.sample, *it.removed, *it.added)))
+    lines = b"".join(line + b"\n" for it in rrsets for line in (it.sample, *it.removed, *it.added))
+    rows = ((ttl, kind, data) for _, ttl, _, kind, data in engine.presented(lines))
     for it in rrsets:
         _, it.shown, data = next(rows)
         it.gone, it.come = [next(rows) for _ in it.removed], [next(rows) for _ in it.added]

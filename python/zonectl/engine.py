@@ -6,7 +6,7 @@ from __future__ import annotations
 
 import re
 from collections.abc import Iterator
-from typing import NamedTuple, NoReturn
+from typing import NamedTuple
 
 from .errors import Refusal, Undone
 
@@ -23,33 +23,19 @@ VERIFIED = "verified"
 UNKNOWN_TYPE, COMPRESSIBLE = 7, 33
 
 
-def of_file(octets: bytes, origin: str) -> bytes:
-    """Returns the canonical text of a master file. Raises Refusal."""
+def canonical(octets: bytes, origin: str = zonenorm.TRANSFER) -> bytes:
+    """Returns the canonical text of a master file, or of a transfer. Raises Refusal, with the place of a file taken out of its line."""
     try:
         return zonenorm.normalise(octets, origin)
-    except zonenorm.Refused as refused:
-        _refuse(_without_data(octets, origin, refused))
-
-
-def of_transfer(octets: bytes) -> bytes:
-    """Returns the canonical text of a transfer. Raises Refusal."""
-    try:
-        return zonenorm.normalise(octets, zonenorm.TRANSFER)
-    except zonenorm.Refused as refused:
-        _refuse(refused)
-
-
-def _refuse(refused: zonenorm.Refused) -> NoReturn:
-    """Raises the refusal of the engine, with the place of a file taken out of its line."""
+    except zonenorm.Refused as error:
+        refused = _without_data(octets, origin, error) if error.number == UNKNOWN_TYPE and origin != zonenorm.TRANSFER else error
     text = PLACE.sub("", refused.text, count=1)
     name = text.split(" ", 2)[1].rstrip(":") if text.startswith("F") else None
-    raise Refusal(text, line=refused.line, fault=refused.number, name=name) from None
+    raise Refusal(text, line=refused.line, fault=refused.number, name=name)
 
 
 def _without_data(octets: bytes, origin: str, refused: zonenorm.Refused) -> zonenorm.Refused:
     """Returns the refusal of an entry whose data of a further type is wrong as BadRdata, with its field."""
-    if refused.number != UNKNOWN_TYPE:
-        return refused
     try:
         zonenorm.generic(octets, origin)
     except zonenorm.Refused as reason:

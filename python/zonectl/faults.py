@@ -99,7 +99,7 @@ class Checked(NamedTuple):
 def faults_of(octets: bytes, origin: str, file: str, most: int) -> Checked:
     """Returns the faults of a master file, at most so many."""
     try:
-        return Checked(engine.of_file(octets, origin), [])
+        return Checked(engine.canonical(octets, origin), [])
     except Refusal as refusal:
         text = refusal.text.partition(": ")[2]
         kind, part, rest = re.fullmatch(r"(?:([A-Z0-9-]+), ([^:]+): )?(.*)", text, re.S).groups()  # type: ignore[union-attr]

@@ -4,7 +4,6 @@ Seen with BIND 9.18.49, NSD 4.6.1 and Knot 3.2.6, a zone a rule, as a primary wi
 """
 from __future__ import annotations
 
-import ipaddress
 import re
 from collections.abc import Iterable, Iterator
 from functools import cached_property
@@ -26,6 +25,7 @@ CNAME, DNAME, DS, SSHFP = "CNAME", "TYPE39", "TYPE43", "TYPE44"
 BESIDE_CNAME = frozenset((CNAME, "TYPE46", "TYPE47", "TYPE25"))  # RRSIG, NSEC and KEY
 OF_NSEC3 = frozenset(("TYPE50", "TYPE46"))  # whose owners are no names of the zone
 DIGESTS = {DS: (3, 4, "digest", {1: 20, 2: 32, 4: 48}), SSHFP: (1, 2, "fingerprint", {1: 20, 2: 32})}
+ADDRESS = re.compile(r"(?:(?:25[0-5]|2[0-4]\d|1\d\d|[1-9]?\d)\.){4}", re.A)  # at the beginning of a name
 REVERSE = re.compile(r"(?:.+\.)?(?:in-addr|ip6)\.arpa\.")
 TARGETS = {"NS": ("name server", 0), "MX": ("mail server", 1), "SRV": ("target", 3), "PTR": ("target", 0)}
 Record = tuple[str, str, str]  # owner, type and RDATA of a canonical line
@@ -163,7 +163,7 @@ def _of_target(names: Names, owner: str, kind: str, data: str) -> Iterator[tuple
     target = data.split(" ")[at]
     if not HOST.fullmatch(target) and (kind != "PTR" or REVERSE.fullmatch(owner)):
         yield "host-name", f"the {what} {target} isn't a host name"
-    if kind in ("NS", "MX") and _is_address(target):
+    if kind in ("NS", "MX") and ADDRESS.match(target):
         yield f"{kind.lower()}-address", f"the {what} {target} is an address"
     if kind == "PTR" or not names.is_inside(target):
         return
@@ -175,11 +175,3 @@ def _of_target(names: Names, owner: str, kind: str, data: str) -> Iterator[tuple
         yield f"{kind.lower()}-is-cname", f"the {what} {target} is a CNAME"
     elif kind != "SRV" and not OF_ADDRESSES & set(types) and not names.is_delegated(target):
         yield f"{kind.lower()}-no-address", f"the {what} {target} has no address"
-
-
-def _is_address(target: str) -> bool:
-    """Whether a name begins with the four numbers of an IPv4 address."""
-    try:
-        return bool(ipaddress.IPv4Address(".".join(target.split(".")[:4])))
-    except ValueError:
-        return False

@@ -15,25 +15,24 @@ from . import __version__, texts as _texts  # noqa: F401  which registers how st
 from .errors import Failure, Status, Undone, Usage, system_reason
 from .outputs import Output, say, to_standard_output
 
-COMMANDS = {  # and the module of each
-    "normalise": "normalise", "normalize": "normalise", "diff": "diff", "sum": "sum", "check": "check",
-    "zonemd": "zonemd", "fetch": "fetch", "completion": "completion",
-}
 SIGNALS = (signal.SIGINT, signal.SIGHUP, signal.SIGTERM)
-LATER = ("fleet",)
-HELP = """\
+ABOUT = {  # what comes after each, and what it does
+    "normalise": ("SOURCE", "print the canonical text of a zone"),
+    "diff": ("A B", "print how two copies of a zone differ"),
+    "check": ("[SOURCE|FOLDER..]", "print what is wrong with zone files, and which servers refuse them"),
+    "sum": ("SOURCE..", "print the digest of each zone; sum --check FILE compares"),
+    "zonemd": ("verify|add SOURCE", "verify a zone against its ZONEMD record, or give it one"),
+    "fetch": ("SOURCE -o FILE", "keep the octets that a server sends"),
+    "fleet": ("run|report|merge", "compare many zones with many servers"),
+    "completion": ("bash|zsh|fish", "print a completion for the shell"),
+}
+COMMANDS = {**{name: name for name in ABOUT}, "normalize": "normalise"}  # and the module of each
+HELP = f"""\
 usage: zonectl COMMAND [OPTION].. SOURCE..
 
 Are two copies of a DNS zone the same, and if not, what differs?
 
-  normalise SOURCE            print the canonical text of a zone
-  diff A B                    print how two copies of a zone differ
-  check [SOURCE|FOLDER..]     print what is wrong with zone files, and which servers refuse them
-  sum SOURCE..                print the digest of each zone; sum --check FILE compares
-  zonemd verify|add SOURCE    verify a zone against its ZONEMD record, or give it one
-  fetch SOURCE -o FILE        keep the octets that a server sends
-  completion bash             print a completion for the shell
-
+{"".join(f"  {f'{name} {more}':<27} {what}{chr(10)}" for name, (more, what) in ABOUT.items())}
 SOURCE is a file, - (standard input), axfr://[KEY@]HOST[:PORT]/ZONE, axfrs:// (over TLS), https://..,
 git:[REV]:PATH, or file:PATH, capture:PATH or dig:PATH.
 
@@ -46,8 +45,6 @@ Exit status: 0 good, the same, written; 1 different; 2 the command line is wrong
 
 def module_of(name: str) -> ModuleType:
     """Returns the module of a subcommand. Raises Usage."""
-    if name in LATER:
-        raise Usage(f"the subcommand {name} isn't in this version")
     if name not in COMMANDS:
         raise Usage(f"there is no subcommand {name} (zonectl --help)")
     return importlib.import_module(f".commands.{COMMANDS[name]}", __package__)

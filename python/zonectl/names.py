@@ -6,7 +6,8 @@ import re
 LABEL = re.compile(r"(?:[^.\\]|\\(?:25[0-5]|2[0-4]\d|[01]\d\d|\D))+", re.A | re.S)
 NAME = re.compile(rf"\.|{LABEL.pattern}(?:\.{LABEL.pattern})*\.?", re.A | re.S)
 ESCAPE = re.compile(r"\\(?:(\d{3})|(.))", re.A | re.S)
-ESCAPED = frozenset(b'"$().;@\\')  # a backslash before them, as the engine prints names
+# Each octet of a label as the engine prints it.
+SHOWN = [f"\\{it:03d}" if not 33 <= it <= 126 else f"\\{chr(it)}" if it in b'"$().;@\\' else chr(it) for it in range(256)]
 CLASSES = {"IN": 1, "CS": 2, "CH": 3, "HS": 4}
 
 
@@ -40,19 +41,13 @@ def labels_of(name: bytes) -> list[bytes]:
     return labels
 
 
-def shown_label(label: bytes) -> str:
-    """Returns a label as the engine prints it."""
-    return "".join(
-        f"\\{octet:03d}" if not 33 <= octet <= 126 else f"\\{chr(octet)}" if octet in ESCAPED else chr(octet) for octet in label)
-
-
 def shown_name(name: bytes) -> str:
     r"""Returns a name in wire format as the engine prints it: absolute, in lower case.
 
     >>> shown_name(b"\x03a.B\x00")
     'a\\.b.'
     """
-    return "".join(f"{shown_label(label)}." for label in labels_of(name.lower())) or "."
+    return "".join(f"{''.join(SHOWN[octet] for octet in label)}." for label in labels_of(name.lower())) or "."
 
 
 def absolute(text: str) -> str:

@@ -8,7 +8,7 @@ from typing import TYPE_CHECKING, NoReturn, TypeVar
 
 from . import bounds
 from .bounds import Limits
-from .errors import Failure, Usage, about
+from .errors import Failure, Undone, Usage, about
 from .names import absolute
 from .outputs import Output
 from .reading import Access
@@ -107,12 +107,19 @@ def add_sources(parser: Parser, has_origin: bool = True) -> None:
 
 def add_jobs(parser: Parser) -> None:
     """Adds how many inputs are read at once."""
-    parser.option("-j", "--jobs", type=bounds.whole(1000), default=min(os.cpu_count() or 1, 8), metavar="N",
+    parser.option("-j", "--jobs", type=bounds.whole(1000), metavar="N",
                   help="so many inputs at once (the number of CPUs, at most 8)")
 
 
-def at_once(items: Sequence[T], number: int, work: Callable[[T], R]) -> Iterator[R | Failure]:
-    """Yields what each item comes to, or why to nothing, in their order, several at once. The engine's calls run beside each other."""
+def default_jobs() -> int:
+    """Returns how many inputs are read at once if nothing is said."""
+    return min(os.cpu_count() or 1, 8)
+
+
+def at_once(
+    items: Sequence[T], number: int | None, work: Callable[[T], R], output: Output, named: Callable[[T], str],
+) -> Iterator[R | Failure]:
+    """Yields what each item comes to, or why to nothing, in their order. Several are done at once by processes, if there are several."""
 
     def tried(item: T) -> R | Failure:
         try:
@@ -120,16 +127,31 @@ def at_once(items: Sequence[T], number: int, work: Callable[[T], R]) -> Iterator
         except Failure as failure:
             return failure
 
-    if number == 1 or len(items) < 2:
+    number = min(number or default_jobs(), len(items))
+    if number < 2:
         yield from map(tried, items)
         return
-    from concurrent.futures import ThreadPoolExecutor
+    import pickle
 
-    pool = ThreadPoolExecutor(number)
-    try:
-        yield from pool.map(tried, items)
-    finally:
-        pool.shutdown(wait=False, cancel_futures=True)
+    from .workers import Gone, answers
+
+    def make(_worker: int) -> Callable[[int], str]:
+        output.is_quiet = True  # so notes are held back, for this process to write
+
+        def one(at: int) -> str:
+            output.held.clear()
+            return pickle.dumps((tried(items[at]), output.held)).hex()
+
+        return one
+
+    came: dict[int, R | Failure] = {}
+    for at, answer in answers(len(items), number, make):
+        if answer is None or isinstance(answer, Gone):
+            came[at] = Undone(answer or "out of memory", named(items[at]))
+        else:
+            came[at], notes = pickle.loads(bytes.fromhex(answer))
+            output.notes(notes)
+    yield from (came[at] for at in range(len(items)))
 
 
 def access_of(given: argparse.Namespace, output: Output) -> Access:

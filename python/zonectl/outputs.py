@@ -28,11 +28,15 @@ class Output:
 
     def note(self, text: str, source: str | None = None, by: str = "zonectl: ") -> None:
         """Writes a line to standard error."""
-        line = f"{by}{source}: {text}" if source else by + text
+        self.notes([f"{by}{source}: {text}" if source else by + text])
+
+    def notes(self, lines: list[str]) -> None:
+        """Writes lines to standard error."""
         if self.is_quiet:
-            self.held.append(line)
+            self.held += lines
         else:
-            say(line)
+            for line in lines:
+                say(line)
 
     def failed(self, failure: Failure) -> int:
         """Writes why a source has no result, and returns the status."""

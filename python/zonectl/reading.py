@@ -12,7 +12,7 @@ from dataclasses import dataclass, field
 from typing import TYPE_CHECKING
 
 from . import dig
-from .bounds import Clock, Limits
+from .bounds import Limits
 from .errors import Refusal, Undone, Usage
 from .names import wire_name
 from .sources import File, Git, Server, Source, Standard, Web
@@ -148,26 +148,19 @@ def from_path(path: str, limits: Limits) -> bytes:
 
 def from_descriptor(descriptor: int, limits: Limits) -> bytes:
     """Returns the octets of an open file. A pipe and a terminal may take until the deadline."""
-    clock, found = limits.clock("reading"), bytearray()
-    poll = None if stat.S_ISREG(os.fstat(descriptor).st_mode) else select.poll()
+    clock, found, status = limits.clock("reading"), bytearray(), os.fstat(descriptor)
+    poll = None if stat.S_ISREG(status.st_mode) else select.poll()
     if poll:
         poll.register(descriptor, select.POLLIN)
     while True:
-        if poll:
-            _until_ready(poll, clock)
-        piece = os.read(descriptor, PIECE)
+        while poll and not poll.poll(None if (left := clock.left()) is None else left * 1000 + 1):
+            pass
+        piece = os.read(descriptor, PIECE if poll else min(status.st_size + 1, PIECE))
         found += piece
         if len(found) > limits.max_size:
             raise limits.too_large()
         if not piece:
             return bytes(found)
-
-
-def _until_ready(poll: select.poll, clock: Clock) -> None:
-    while True:
-        left = clock.left()
-        if poll.poll(None if left is None else left * 1000 + 1):
-            return
 
 
 def from_git(source: Git, limits: Limits) -> bytes:

@@ -63,7 +63,7 @@ def _record(it: Stated) -> tuple[str, str]:
     """Returns the type and the RDATA of an entry as the engine prints them, its owner and its TTL left out."""
     head = f"$ORIGIN {it.origin}\n" + "$TTL 0\n. SOA . . 0 0 0 0 0\n" * (it.kind != SOA)
     try:
-        text = engine.of_file(head.encode() + b"." * it.entry.is_blank + it.entry.octets, ".")
+        text = engine.canonical(head.encode() + b"." * it.entry.is_blank + it.entry.octets, ".")
     except Refusal:
         return in_the_text(it.kind or 0), ""
     return in_the_text(it.kind or 0), text.decode().split("\n")[-2].split(" ", 4)[4]

@@ -5,8 +5,11 @@ Names, paths, URLs and messages come from outside. They pass `safe` on their way
 from __future__ import annotations
 
 import codecs
+import re
 
-RED, GREEN, YELLOW, ALARM = "31", "32", "33", "1;31"
+# The colours of a difference's lines, by how they begin: red, green, yellow, and bold red for the alarm.
+COLOURED = re.compile("^(?:(---|  -)|(\\+\\+\\+|  \\+)|(  ~)|(DIFFERENT UNDER)) .*", re.M)
+COLOURS = ("31", "32", "33", "1;31")
 
 
 def _escaped(octets: bytes) -> str:
@@ -77,6 +80,6 @@ def duration(seconds: float) -> str:
     return f"{hours}h{minutes:02d}m{rest:02d}s" if hours else f"{minutes}m{rest:02d}s"
 
 
-def coloured(text: str, colour: str, is_on: bool) -> str:
-    """Returns a text in a colour, if colours are on."""
-    return f"\x1b[{colour}m{text}\x1b[0m" if is_on else text
+def coloured(text: str) -> str:
+    """Returns the text of a difference in colours."""
+    return COLOURED.sub(lambda it: f"\x1b[{COLOURS[(it.lastindex or 1) - 1]}m{it[0]}\x1b[0m", text)

@@ -11,6 +11,7 @@ from dataclasses import dataclass, field
 from typing import Protocol
 
 from .bounds import Limits
+from .connections import Lost
 from .errors import Failure, Refusal, Undone
 from .messages import AXFR, HEADER, Malformed, question, soas_among_answers
 from .tsig import BadSignature, Key, Signatures, key_error, named
@@ -24,14 +25,6 @@ CODES = {  # RFC 1035 section 4.1.1, RFC 2136 section 2.2
     5: "REFUSED: it doesn't let this address or this key transfer the zone",
     9: "NOTAUTH: it isn't authoritative for this zone",
 }
-
-
-class Stopped(Undone):
-    """Why a transfer ends without its closing SOA."""
-
-
-class WrongSignature(Refusal):
-    """What is wrong with the signatures of a transfer."""
 
 
 class Stream(Protocol):
@@ -51,23 +44,25 @@ class Query:
     zone: bytes  # in wire format
     class_number: int = 1
     ident: bytes = field(default_factory=lambda: struct.pack("!H", secrets.randbelow(65536)))
+    kind: int = AXFR
 
     def message(self) -> bytes:
         """Returns the message."""
-        return self.ident + struct.pack("!HHHHH", 0, 1, 0, 0, 0) + self.zone + struct.pack("!HH", AXFR, self.class_number)
+        return self.ident + struct.pack("!HHHHH", 0, 1, 0, 0, 0) + self.zone + struct.pack("!HH", self.kind, self.class_number)
 
 
 class Frames:
     """The messages of a stream, each after its length of two octets."""
 
     def __init__(self, connection: Stream) -> None:
-        self.connection, self.rest = connection, bytearray()
+        rest = getattr(connection, "rest", None)  # where the connection serves another query after this one
+        self.connection, self.rest = connection, bytearray() if rest is None else rest
 
     def _fill(self, count: int) -> None:
         while len(self.rest) < count:
             piece = self.connection.recv(PIECE)
             if not piece:
-                raise Stopped("the connection ended before the closing SOA")
+                raise Lost("the connection ended before the closing SOA")
             self.rest += piece
 
     def next(self) -> bytes:
@@ -83,15 +78,15 @@ class Frames:
 def must_answer(message: bytes, query: Query) -> None:
     """Refuses a message with another ID (RFC 5936 2.2.1), an error code or another question."""
     if len(message) < HEADER:
-        raise Stopped("a message ends too early")
+        raise Undone("a message ends too early")
     if message[:2] != query.ident:
-        raise Stopped("a message answers another query: its ID isn't that of this one")
+        raise Undone("a message answers another query: its ID isn't that of this one")
     code = message[3] & 15
     if code:
-        raise Stopped(f"the server answers with {key_error(message) or named(CODES, code)}")
+        raise Undone(f"the server answers with {key_error(message) or named(CODES, code)}")
     asked = question(message)
-    if asked and asked != (query.zone.lower(), AXFR, query.class_number):
-        raise Stopped("a message answers another question")
+    if asked and asked != (query.zone.lower(), query.kind, query.class_number):
+        raise Undone("a message answers another question")
 
 
 def capture(
@@ -99,7 +94,7 @@ def capture(
 ) -> int:
     """Hands messages to `sink`, each after its length, up to the one in which an SOA comes the second time. Returns how many came.
 
-    With signatures they are held back until one covers them. Raises Stopped, WrongSignature, or what the connection raises.
+    With signatures they are held back until one covers them. Raises Failure.
     """
     frames, held = Frames(connection), bytearray()
     soas = octets = count = 0
@@ -120,11 +115,11 @@ def capture(
                 sink(bytes(held))
                 held.clear()
     except (IndexError, struct.error):
-        raise Stopped("a message ends too early") from None
+        raise Undone("a message ends too early") from None
     except Malformed as error:
-        raise Stopped(str(error)) from None
+        raise Undone(str(error)) from None
     except BadSignature as error:
-        raise WrongSignature(str(error)) from None
+        raise Refusal(str(error)) from None
     except Failure:
         if not signatures:
             sink(bytes(frames.rest))

@@ -33,10 +33,7 @@ class Reader:
     def copy(self, source: Source, fallback: str | None = None) -> Copy:
         """Reads a source. `fallback` is the origin of a file without evidence. Raises Failure."""
         with about(source.text):
-            copy = self.judged(source, read(source, self.access), fallback)
-            if self.require_zonemd and copy.is_transfer and not (found := engine.verify(copy.text)).is_verified:
-                raise Refusal("; ".join(found.lines()).replace("; not verified:", ";"))
-            return copy
+            return self.judged(source, read(source, self.access), fallback)
 
     def pair(self, first: Source, second: Source) -> tuple[Copy, Copy]:
         """Reads two sources of one zone. Files come before servers, which aren't asked for another zone. Raises Failure."""
@@ -56,11 +53,14 @@ class Reader:
     def judged(self, source: Source, it: Read, fallback: str | None = None) -> Copy:
         """Returns what was read as a copy. Raises Failure."""
         if it.is_transfer:
-            return self._of_transfer(source, it)
+            copy = self._of_transfer(source, it)
+            if self.require_zonemd and not (found := engine.verify(copy.text)).is_verified:
+                raise Refusal("; ".join(found.lines()).replace("; not verified:", ";"))
+            return copy
         if it.has_mark:
             self.warn(source.text, "a byte order mark is skipped, for which servers refuse the file")
         name = self.origin_of(source, it.octets, fallback)
-        return self.under(source, engine.of_file(it.octets, name), name)
+        return self.under(source, engine.canonical(it.octets, name), name)
 
     def under(self, source: Source, text: bytes, name: str) -> Copy:
         """Returns the canonical text of a file as a copy. Its apex has to be the origin, if that wasn't given. Raises Undone."""
@@ -94,7 +94,7 @@ class Reader:
     def _transferred(self, source: Source, octets: bytes) -> Copy:
         """Returns a transfer. One with a type that the engine doesn't read in transfers (F33) is decoded here."""
         try:
-            return Copy(source.text, engine.of_transfer(octets), is_transfer=True)
+            return Copy(source.text, engine.canonical(octets), is_transfer=True)
         except Refusal as refusal:
             if refusal.fault != engine.COMPRESSIBLE:
                 raise
@@ -104,7 +104,7 @@ class Reader:
             if not found:
                 raise
         try:
-            text = engine.of_file(found.text, ".")
+            text = engine.canonical(found.text, ".")
         except Refusal as refusal:
             refusal.line = None  # that of a text that nobody sees
             raise
@@ -117,6 +117,11 @@ class Reader:
             return self.origin
         name, text = origin.by_name(path_of(source)), origin.by_text(octets)
         return fallback if fallback and not name and not text else origin.decided(name, text, self.origin_from)
+
+
+def file_name(apex: str) -> str:
+    """Returns the name of a zone as that of a file. It has no `/`, and isn't `..`, since no label is empty."""
+    return apex.removesuffix(".").replace("/", "_") or "root"
 
 
 def path_of(source: Source) -> str:

@@ -15,7 +15,10 @@ from typing import NamedTuple
 
 TOP = Path(__file__).resolve().parents[2]
 EXAMPLES = TOP / "examples"
-COMMANDS = TOP / "commands"
+LIBRARY = TOP / "build/unproved/libzonenorm.so.1"  # of zonectl
+ENVIRONMENT = {**os.environ, "PYTHONPATH": str(TOP / "python"), "PYTHONDONTWRITEBYTECODE": "1"}
+ENVIRONMENT.setdefault("ZONENORM_LIBRARY", str(LIBRARY))
+ZONECTL = (sys.executable, "-m", "zonectl")
 
 
 def said(*words, **more):
@@ -151,17 +154,26 @@ SENT_BY_SIGNERS = {
 }
 
 
-def captured(port, path, *more, python=(sys.executable,)):
+def url_of(port, options, of="IN"):
+    """The zone of the server at a port; over TLS if an option says how."""
+    scheme = "axfrs" if any(str(it).startswith("--tls") for it in options) else "axfr"
+    return f"{scheme}://127.0.0.1:{port}/example?class={of}"
+
+
+def zonectl(*words, run=ZONECTL):
+    """The status of zonectl, and what it says."""
+    return said(*run, *words, env=ENVIRONMENT)
+
+
+def captured(port, path, *more, run=ZONECTL, of="IN"):
     """Captures the transfer of the server at a port: the status, and what was said."""
-    return said(
-        *python, COMMANDS / "capture_transfer", "--port", str(port), "--timeout", "5",
-        *more, "127.0.0.1", "example.", path,
-    )
+    Path(path).write_bytes(b"")  # since zonectl leaves a file as it is if nothing came
+    return zonectl("fetch", "-t", "5", *more, url_of(port, more, of), "-o", path, run=run)
 
 
-def stream_of(port, path, *more):
+def stream_of(port, path, *more, of="IN"):
     """The status alone."""
-    return captured(port, path, *more)[0]
+    return captured(port, path, *more, of=of)[0]
 
 
 @contextlib.contextmanager
@@ -175,7 +187,7 @@ def serving(server, file, *more, **settings):
             ran = subprocess.Popen(words, stdout=log, stderr=log)
         try:
             for _ in range(100):
-                if stream_of(port, os.devnull, *more) == 0:
+                if stream_of(port, os.devnull, *more, of=settings.get("of", "IN")) == 0:
                     break
                 time.sleep(0.1)
             else:

@@ -1,3 +1,4 @@
 pub mod Origin
 pub mod LineFault
 pub mod Order
+pub mod Answering

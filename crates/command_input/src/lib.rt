@@ -8,5 +8,5 @@ mod telling;
 
 pub use line_fault::LineFault;
 pub use origin::origin_of;
-pub use telling::{refuse, refuse_saying, report};
+pub use telling::{DIFFERENT, answer_line, answer_verdict, refuse, refuse_saying, report};
 pub use zone_engine::status;

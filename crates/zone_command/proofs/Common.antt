@@ -15,12 +15,12 @@ pub use Rattle.zone_rdata.specs.declared.fault.Stop.{Stop}
 pub use Rattle.zone_rdata.specs.declared.fault.Stop.TheVariants.{Memory, Read, Refused, Write}
 pub use Rattle.zone_engine.specs.Compare.{Compares, StopsCompare}
 pub use Rattle.zone_engine.specs.Input.{Input}
-pub use Rattle.zone_command.specs.Machine.Telling.{TellsVerdict, told, untold}
+pub use Rattle.command_input.specs.Answering.{Answers, answered, outputs, unanswered}
 pub use Rattle.zone_engine.specs.Normalise.{Normalises, StopsNormalise}
 pub use Rattle.zone_command.specs.Order.{IsLineFault}
 pub use Rattle.zone_command.specs.Run.{AreCompared, Devices, IsStopped, Runs}
 pub use Rattle.zone_engine.specs.Reading.{ReadsToEnd, ReadsWhole, StopsReading, TellsRead}
-pub use Rattle.zone_engine.specs.Telling.{TellsLine, WritesPartOfLine, stop_line, stop_status, verdict_line, which_words}
+pub use Rattle.zone_engine.specs.Telling.{TellsLine, stop_line, stop_status, verdict_line, verdict_status, which_words}
 pub use Rattle.zone_engine.specs.declared.comparison.Verdict.{Verdict}
 pub use Rattle.zone_command.specs.declared.order.Order.{Order}
 pub use Rattle.zone_engine.specs.Form.{read_as_with}

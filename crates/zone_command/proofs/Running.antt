@@ -1,5 +1,5 @@
 -- From what an order's call answers, and what is told of it, to what a run leaves.
-use Rattle.zone_command.proofs.Common.{◌≡◌, ◌++◌, ℕ, List, [], sym, subst, Option, IfSome, Stop, Write, text_limit, IsFailedWrite, Compares, StopsCompare, told, untold, TellsVerdict, Normalises, ReadsToEnd, ReadsWhole, StopsReading, read_as_with, AreCompared, Device, Devices, IsLeft, WorksOn, Runs, StopsNormalise, TellsLine, TellsRead, stop_line, stop_status, verdict_line, which_words, WritesPartOfLine, Verdict, arith, Input, Octets}
+use Rattle.zone_command.proofs.Common.{◌≡◌, ◌++◌, ℕ, List, [], sym, subst, Option, IfSome, Stop, Write, text_limit, Compares, StopsCompare, Answers, answered, outputs, unanswered, Normalises, ReadsToEnd, ReadsWhole, StopsReading, read_as_with, AreCompared, Device, Devices, IsLeft, WorksOn, Runs, StopsNormalise, TellsLine, TellsRead, stop_line, stop_status, verdict_line, verdict_status, which_words, Verdict, arith, Input, Octets}
 use Rattle.std.specs.Prelude.{None, Some}
 use Rattle.std.specs.Io.KnownBytes.{Consumes, Keeps}
 use Rattle.zone_engine.specs.Compare.{by_first, by_second}
@@ -11,10 +11,6 @@ use Rattle.zone_command.specs.declared.order.Order.TheVariants.{Normalise, Expla
 use Rattle.zone_command.specs.declared.order.Source.{Source}
 
 -- ---- what stopped a run is told
-
--- a verdict whose line was not written whole is told as a failed write
-pub not_told : (verdict : Verdict) (output output' errors errors' : Device) (stop : Stop) (answer : ℕ) → WritesPartOfLine (verdict_line verdict) output output' → IsFailedWrite output output' stop → TellsLine (stop_line stop) (stop_status stop) errors errors' answer → TellsVerdict verdict output output' errors errors' answer
-not_told verdict output output' errors errors' stop answer part failed report = grind (arith, untold)
 
 -- octets of the form are an input with the origin
 module _ (origin : Option (List (List ℕ))) (form : Octets → Input) (is : form ≡ read_as_with origin) (old new : Devices) where
@@ -36,11 +32,11 @@ module _ (origin : Option (List (List ℕ))) (form : Octets → Input) (is : for
       runs.stopped [] stop answer (runs.explaining origin stop (subst (λ (f : Octets → Input). StopsExplain f old.first old.output new.output stop) is h) tells_read second) report
 
 module _ (one other : Source) (form other_form : Octets → Input) (is : form ≡ read_as_with one.origin) (other_is : other_form ≡ read_as_with other.origin) (old new : Devices) where
-  judged : (verdict : Verdict) (answer : ℕ) → AreCompared one other old new verdict → TellsVerdict verdict old.output new.output old.errors new.errors answer → Runs (Compare one other) old new answer
-  judged verdict _ are (told line works errors) = runs.done _ (runs.compared one other verdict are line works) errors
-  judged verdict _ are (untold answer part failed line) = runs.stopped [] Write answer (runs.telling one other verdict are part failed) line
+  judged : (verdict : Verdict) (answer : ℕ) → AreCompared one other old new verdict → Answers (verdict_line verdict) (verdict_status verdict) (outputs old.output new.output old.errors new.errors) answer → Runs (Compare one other) old new answer
+  judged verdict _ are (answered line works errors) = runs.done _ (runs.compared one other verdict are line works) errors
+  judged verdict _ are (unanswered answer part failed line) = runs.stopped [] Write answer (runs.telling one other verdict are part failed) line
 
-  pub compares : (verdict : Verdict) (answer : ℕ) → IfSome old.first.octets (λ octets. IfSome old.second.octets (λ others. Compares (form octets) (other_form others) verdict)) → ReadsToEnd text_limit old.first new.first × ReadsToEnd text_limit old.second new.second → TellsVerdict verdict old.output new.output old.errors new.errors answer → Runs (Compare one other) old new answer
+  pub compares : (verdict : Verdict) (answer : ℕ) → IfSome old.first.octets (λ octets. IfSome old.second.octets (λ others. Compares (form octets) (other_form others) verdict)) → ReadsToEnd text_limit old.first new.first × ReadsToEnd text_limit old.second new.second → Answers (verdict_line verdict) (verdict_status verdict) (outputs old.output new.output old.errors new.errors) answer → Runs (Compare one other) old new answer
   compares verdict answer h read line = grind (arith, judged)
 
   pub compare_stopped : (which : Which) (stop : Stop) (answer : ℕ) (words : List ℕ) → StopsCompare form other_form old.first new.first old.second new.second which stop → IsLeft old.output new.output → words ≡ which_words which → TellsLine (words ++ stop_line stop) (stop_status stop) old.errors new.errors answer → Runs (Compare one other) old new answer

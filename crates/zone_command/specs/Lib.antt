@@ -1,3 +1,2 @@
 pub mod Order
 pub mod Run
-pub mod Machine

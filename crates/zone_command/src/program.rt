@@ -1,16 +1,11 @@
-ghost use Rattle.zone_command.specs.Machine.Telling.{TellsVerdict};
 ghost use Rattle.zone_command.specs.Run.{devices, ReadsSecond, Runs};
 ghost use Rattle.zone_engine.specs.Reading.{ReadsFew};
 
 use crate::order::Order;
-use command_input::{report, status};
-use itoa::Buffer;
+use command_input::{answer_verdict, report, status};
 use std::alloc::Global;
-use zone_engine::{Form, OctetReader, Verdict, compare, explain, normalise, write_line};
+use zone_engine::{Form, OctetReader, compare, explain, normalise};
 use zone_print::OctetWriter;
-
-/// The exit status of a comparison of two zones that differ.
-const DIFFERENT: u8 = 1;
 
 /// The whole program over two readers, a writer and an error writer. `normalise` and `explain` read
 /// the first reader alone. A comparison reads the second one if the first was accepted.
@@ -58,29 +53,9 @@ pub fn run<R1: OctetReader, R2: OctetReader, W: OctetWriter, E: OctetWriter>(
                 Form::with_origin(&other.origin),
             );
             match compare(alloc, forms.0, first, forms.1, second) {
-                Ok(verdict) => tell_verdict(verdict, output, errors),
+                Ok(verdict) => answer_verdict(verdict, output, errors),
                 Err((which, stop)) => report(which.words(), &stop, errors),
             }
         }
-    }
-}
-
-/// Writes the line of a verdict, and returns its status. It allocates nothing.
-fn tell_verdict<W: OctetWriter, E: OctetWriter>(
-    verdict: Verdict,
-    output: &mut W,
-    errors: &mut E,
-) -> u8
-    ensures { TellsVerdict verdict (W.state output.old) (W.state output.new)
-        (E.state errors.old) (E.state errors.new) result }
-{
-    let mut digits = Buffer::new();
-    let (words, line, answer) = match verdict {
-        Verdict::Same => ("", "same", status::SUCCESS),
-        Verdict::Different(line) => ("different at line ", digits.format(line), DIFFERENT),
-    };
-    match write_line(output, words, line) {
-        Ok(()) => answer,
-        Err(stop) => report("", &stop, errors),
     }
 }

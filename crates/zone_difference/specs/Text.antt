@@ -1,5 +1,5 @@
 -- The text of a list of changes.
-use Rattle.std.specs.Prelude.{◌≡◌, ◌≢◌, ℕ, List, [], ◌∷◌, ◌++◌, Option}
+use Rattle.std.specs.Prelude.{◌≡◌, ◌≢◌, ℕ, Bool, false, true, List, [], ◌∷◌, ◌++◌, Option}
 use Rattle.std.specs.List.{flat_map}
 use Rattle.std.specs.Io.KnownBytes.{Appends}
 use Rattle.zone_rdata.specs.Record.{Record}
@@ -19,12 +19,18 @@ change_line (addition r) = 43 ∷ 32 ∷ line r
 abbrev pub changes_text : List Change → List ℕ
 changes_text changes = flat_map change_line changes
 
--- the changes from the first records to the second were written
+-- whether there is a change
+abbrev pub is_some_change : List Change → Bool
+is_some_change [] = false
+is_some_change (c ∷ changes) = true
+
+-- the changes from the first records to the second were written, if the records differ
 pub record WritesChanges (case : NameCase) (records others : List Record)
-    (old new : Option (List ℕ)) : Type 0 where
+    (old new : Option (List ℕ)) (differ : Bool) : Type 0 where
   pub changes : List Change
   pub are : AreChanges case records others changes
   pub written : Appends old new (changes_text changes)
+  pub some : differ ≡ is_some_change changes
 
 -- a prefix of their text was written, a proper one where names are compared octet by octet
 pub record WritesPart (case : NameCase) (records others : List Record)

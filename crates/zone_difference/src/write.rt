@@ -1,4 +1,4 @@
-ghost use Rattle.std.specs.Prelude.{◌≡◌, ◌++◌, IfErr, OnErr, OnOk};
+ghost use Rattle.std.specs.Prelude.{◌≡◌, ◌++◌, IfErr, IfOk, OnErr, OnOk};
 ghost use Rattle.zone_print.specs.Device.{WorksOn};
 ghost use Rattle.zone_difference.specs.Text.{IsWriteStop, WritesChanges, WritesPart, change_line};
 ghost use Rattle.zone_difference.specs.Walk.{change_of};
@@ -36,6 +36,8 @@ fn push_change(change: &ChangeRef<'_>, out: &mut Vec<u8>) -> Result<(), AllocErr
 /// written for one zone. It keeps some 64 KiB of lines, and with `NameCase::Folded` an RRset. It
 /// doesn't flush the writer.
 ///
+/// Returns whether there is a change.
+///
 /// # Errors
 ///
 /// `Write` if the writer failed, and `Memory`. A prefix of the text was written then, and with
@@ -46,9 +48,9 @@ pub fn write_difference<W: OctetWriter>(
     other: &Zone,
     case: NameCase,
     writer: &mut W,
-) -> Result<(), Stop>
-    ensures text { OnOk result (WritesChanges case zone.now.records other.now.records
-        (W.state writer.old).octets (W.state writer.new).octets) }
+) -> Result<bool, Stop>
+    ensures text { IfOk result (λ differ. WritesChanges case zone.now.records other.now.records
+        (W.state writer.old).octets (W.state writer.new).octets differ) }
     ensures part { OnErr result (WritesPart case zone.now.records other.now.records
         (W.state writer.old).octets (W.state writer.new).octets) }
     ensures works { OnOk result (WorksOn (W.state writer.old) (W.state writer.new)) }
@@ -56,12 +58,15 @@ pub fn write_difference<W: OctetWriter>(
 {
     let mut changes = Changes::new(alloc, zone, other, case)?;
     let mut lines = Vec::new(alloc);
+    let mut differ = false;
     'walk: while let Some(change) = changes.next(alloc)? {
         push_change(&change, &mut lines)?;
+        differ = true;
         if lines.len() >= WRITE_LEN {
             write_octets(writer, &lines)?;
             lines.clear();
         }
     }
-    write_octets(writer, &lines)
+    write_octets(writer, &lines)?;
+    Ok(differ)
 }

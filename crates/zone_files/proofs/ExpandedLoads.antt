@@ -9,13 +9,14 @@ use Rattle.zone_rdata.specs.declared.fault.Stop.TheVariants as stop
 use Rattle.zone_set.specs.Zone.{Zone}
 use Rattle.zone_engine.specs.Refusal.{IfRefused}
 use Rattle.zone_words.specs.Refusal.{refused_of}
-use Rattle.zone_files.specs.Expansion.{Holds, at_first}
-use Rattle.zone_files.specs.ExpandedLoader.{ExpandedState, FilesDenote, IsFaultlessTo, IsReportedOn, LoadsEnd, LoadsInnermost, RefusesFor, ReportsText, StandsForExpanded, fault_of, judged, stopped}
+use Rattle.zone_files.specs.Expansion.{Holds, first_without}
+use Rattle.zone_files.specs.ExpandedLoader.{ExpandedState, FilesDenoteWithout, IsFaultlessTo, IsReportedOn, LoadsEnd, LoadsInnermost, RefusesFor, ReportsText, StandsForExpanded, fault_of, judged, judged_by, stopped}
 use Rattle.zone_files.specs.FileExpander.{ExpanderState}
 use Rattle.zone_files.specs.IncludeStack.{BeginsInner, EndsInnermost, FedFiles, FeedsInnermost, MakesLines, StackState, StandsForFiles, WritesForFiles, fed_ended, fed_inner, fed_more, main_alone, main_file}
 use Rattle.zone_files.specs.Loading.Fed.{LoadingState, StandsForPresentation}
 use Rattle.zone_files.specs.Loading.Report.{IsReported}
 use Rattle.zone_files.specs.Machine.ExpandedLoading.{DenotesLoaded, RefusesFaulty, RefusesUnread, RefusesWhole}
+use Rattle.zone_files.specs.Presentation.{PresentationDenotes}
 use Rattle.zone_files.specs.declared.expansion.progress.FileStatus.{FileStatus}
 use Rattle.zone_files.specs.declared.expansion.progress.FileStatus.TheVariants as statuses
 use Rattle.zone_files.specs.declared.fault.ExpansionFault.{ExpansionFault}
@@ -66,18 +67,18 @@ loads_inner old new begins same origin first fed st = record {
 
 -- ---- what is denoted
 
-module _ (stack : StackState) (loader : LoadingState) (z : Zone) (denotes : DenotesLoaded loader z) (directory : Option (List ℕ)) (name : List ℕ) (origin : Labels) (fed : FedFiles) (text : List ℕ) (st : StandsForFiles stack (at_first directory name origin) fed text) (loads : StandsForPresentation origin loader text) where
-  pub ended_denotes : stack.innermost.status ≡ statuses.Ended → stack.outer ≡ [] → FilesDenote directory name origin (main_file fed).octets (main_file fed).files z
-  ended_denotes is none = record { text = text; ending = _; expanded = ended_text directory name origin stack fed text st is none; denotes = denotes origin text loads }
+module _ (stack : StackState) (loader : LoadingState) (z : Zone) (denotes : DenotesLoaded loader z) (lines : List ℕ) (directory : Option (List ℕ)) (name : List ℕ) (origin : Labels) (fed : FedFiles) (text : List ℕ) (st : StandsForFiles stack (first_without lines directory name origin) fed text) (loads : StandsForPresentation origin loader text) where
+  pub ended_denotes : stack.innermost.status ≡ statuses.Ended → stack.outer ≡ [] → FilesDenoteWithout lines directory name origin (main_file fed).octets (main_file fed).files z
+  ended_denotes is none = record { text = text; ending = _; expanded = ended_text lines directory name origin stack fed text st is none; denotes = denotes origin text loads }
 
-  pub broken_denotes : stack.innermost.status ≡ statuses.BrokenOff → FilesDenote directory name origin (main_file fed).octets (main_file fed).files z
-  broken_denotes is = record { text = text; ending = _; expanded = broken_text directory name origin stack fed text st is; denotes = denotes origin text loads }
+  pub broken_denotes : stack.innermost.status ≡ statuses.BrokenOff → FilesDenoteWithout lines directory name origin (main_file fed).octets (main_file fed).files z
+  broken_denotes is = record { text = text; ending = _; expanded = broken_text lines directory name origin stack fed text st is; denotes = denotes origin text loads }
 
-  pub faulty_denotes : (fault : ExpansionFault) → stack.innermost.status ≡ statuses.Faulty fault → FilesDenote directory name origin (main_file fed).octets (main_file fed).files z
-  faulty_denotes fault is = record { text = text; ending = _; expanded = faulty_text directory name origin stack fed text st fault is; denotes = denotes origin text loads }
+  pub faulty_denotes : (fault : ExpansionFault) → stack.innermost.status ≡ statuses.Faulty fault → FilesDenoteWithout lines directory name origin (main_file fed).octets (main_file fed).files z
+  faulty_denotes fault is = record { text = text; ending = _; expanded = faulty_text lines directory name origin stack fed text st fault is; denotes = denotes origin text loads }
 
-  pub lacking_denotes : (value : ℕ) → stack.innermost.status ≡ statuses.FaultyAt value → FilesDenote directory name origin (main_file fed).octets (main_file fed).files z
-  lacking_denotes value is = record { text = text; ending = _; expanded = lacking_text directory name origin stack fed text st value is; denotes = denotes origin text loads }
+  pub lacking_denotes : (value : ℕ) → stack.innermost.status ≡ statuses.FaultyAt value → FilesDenoteWithout lines directory name origin (main_file fed).octets (main_file fed).files z
+  lacking_denotes value is = record { text = text; ending = _; expanded = lacking_text lines directory name origin stack fed text st value is; denotes = denotes origin text loads }
 
 -- ---- why it is refused
 
@@ -106,3 +107,24 @@ reported_on refusal fault line origin text is reports = record {
   entry = option_map refused_of refusal.entry;
   reported = subst (λ s. IfRefused s (λ f place. IsReported origin text f place (option_map refused_of refusal.entry))) is reports;
 }
+
+-- ---- the text that is judged
+
+module _ (stack : StackState) (text : List ℕ) where
+  judged_by_status : (status : FileStatus) → stack.innermost.status ≡ status → judged_by status stack.outer text ≡ text → judged stack text ≡ text
+  judged_by_status status is same = ap (λ s. judged_by s stack.outer text) is ∙ same
+
+  pub judged_ended : stack.innermost.status ≡ statuses.Ended → stack.outer ≡ [] → judged stack text ≡ text
+  judged_ended is none = judged_by_status statuses.Ended is (ap (λ outer. judged_by statuses.Ended outer text) none)
+
+  pub judged_broken : stack.innermost.status ≡ statuses.BrokenOff → judged stack text ≡ text
+  judged_broken is = judged_by_status statuses.BrokenOff is refl
+
+  pub judged_faulty : (fault : ExpansionFault) → stack.innermost.status ≡ statuses.Faulty fault → judged stack text ≡ text
+  judged_faulty fault is = judged_by_status (statuses.Faulty fault) is refl
+
+  pub judged_lacking : (value : ℕ) → stack.innermost.status ≡ statuses.FaultyAt value → judged stack text ≡ text
+  judged_lacking value is = judged_by_status (statuses.FaultyAt value) is refl
+
+pub denotes_judged : (stack : StackState) (loader : LoadingState) (z : Zone) → ((text : List ℕ) → judged stack text ≡ text) → DenotesLoaded loader z → (origin : Labels) (text : List ℕ) → StandsForPresentation origin loader text → PresentationDenotes origin (judged stack text) z
+denotes_judged stack loader z same denotes origin text loads = subst (λ t. PresentationDenotes origin t z) (sym (same text)) (denotes origin text loads)

@@ -9,3 +9,4 @@ pub mod Own
 pub mod Including
 pub mod Stepping
 pub mod Generating
+pub mod Turning

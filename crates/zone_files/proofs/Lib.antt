@@ -9,3 +9,7 @@ pub mod Stacks
 mod ExpandedLoads
 pub mod FilesReading
 mod FilesLoading
+pub mod ReadingEnds
+pub mod FilesStops
+mod FilesWriting
+mod FilesHeadline

@@ -5,6 +5,7 @@ use Rattle.std.specs.Prelude.{Option}
 use Rattle.zone_print.proofs.Front.{Left, part_more, left_less, left_none}
 use Rattle.std.proofs.Math.Seq.{drop-cons, take-append_seam}
 use Rattle.std.specs.List.{flat_map}
+use Rattle.zone_files.specs.PlacedLine.{placed_text}
 
 -- pieces with a line feed behind them
 abbrev pub fed_pieces : {X : Type 0} → (X → List ℕ) → List X → List ℕ
@@ -37,6 +38,13 @@ left_all known text = record { front = []; split = refl; taken = Appends-nil kno
 -- words, what is before the place, the place, and what is behind it
 pub told_pieces : (w a b c d e f g h i j k l m n o : List ℕ) → w ++ (a ++ (b ++ (c ++ (d ++ (e ++ (f ++ (g ++ (h ++ (i ++ (j ++ (codes ": " ++ (k ++ (l ++ (m ++ (n ++ (o ++ [])))))))))))))))) ≡ w ++ ((a ++ b ++ c ++ d) ++ (e ++ f ++ g ++ h ++ i ++ j) ++ codes ": " ++ (k ++ l ++ m ++ n ++ o))
 told_pieces w a b c d e f g h i j k l m n o = simp (append_assoc, append-nil) refl
+
+-- the place, what is before the colon, and what is behind it
+pub placed_pieces : (e f g h i j a b c d x k l m n o y : List ℕ) → e ++ (f ++ (g ++ (h ++ (i ++ (j ++ (codes ": " ++ (a ++ (b ++ (c ++ (d ++ (codes ": " ++ (x ++ (k ++ (l ++ (m ++ (n ++ (o ++ (y ++ [])))))))))))))))))) ≡ placed_text (e ++ f ++ g ++ h ++ i ++ j) (a ++ b ++ c ++ d) x (k ++ l ++ m ++ n ++ o) y
+placed_pieces e f g h i j a b c d x k l m n o y = simp (append_assoc, append-nil) refl
+
+pub placed_is : (place h head before d detail behind : List ℕ) → h ≡ head → d ≡ detail → placed_text place h before d behind ≡ placed_text place head before detail behind
+placed_is place h head before d detail behind of_head of_detail = rw (of_head, of_detail) refl
 
 pub told_is : (words h p d head place detail : List ℕ) → h ≡ head → p ≡ place → d ≡ detail → words ++ (h ++ p ++ codes ": " ++ d) ≡ words ++ (head ++ place ++ codes ": " ++ detail)
 told_is words h p d head place detail of_head of_place of_detail = rw (of_head, of_place, of_detail) refl

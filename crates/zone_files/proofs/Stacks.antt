@@ -1,15 +1,15 @@
 -- The stack of the files that are open: what it stands for after each call.
-use Rattle.std.proofs.Common.{◌≡◌, ℕ, zero, suc, ◌+◌, ◌≤◌, ◌⊎◌, inl, inr, Bool, List, [], ◌∷◌, ◌++◌, length, Option, Some, None, refl, sym, ap, subst, ◌∙◌, append_assoc, append-nil, arith}
+use Rattle.std.proofs.Common.{◌≡◌, ℕ, zero, suc, ◌+◌, ◌≤◌, ◌⊎◌, inl, inr, Bool, ◌<◌, List, [], ◌∷◌, ◌++◌, length, Option, Some, None, refl, sym, ap, subst, ◌∙◌, append_assoc, append-nil, arith}
 use Rattle.std.proofs.lemmas.List.{reverse-append}
 use Rattle.std.proofs.lemmas.List.Elements.{All-pop, All-push, All-same}
 use Rattle.std.proofs.lemmas.List.Sums.{sum_by-append}
 use Rattle.std.specs.List.{All}
 use Rattle.std.specs.Prelude.{IfSome, drop, option_to_list, reverse}
 use Rattle.zone_name.specs.Common.{Labels}
-use Rattle.zone_files.specs.Expansion.{Ending, Expands, Files, Holds, IsExpanded, at_first, breaks_off, ends, file, last_line, no_files, stops, stops_at, within}
+use Rattle.zone_files.specs.Expansion.{Ending, Expands, Files, Holds, IsExpandedWithout, breaks_off, ends, file, first_without, last_line, no_files, stops, stops_at, within}
 use Rattle.zone_files.specs.FileExpander.{AfterInner, Awaits, ExpanderState, Feeds, HasFewerLines, IsOver, NamedFile, StandsBy, StandsFor, TakesIncluded, WritesFor, then}
 use Rattle.zone_files.specs.IncludeStack.{AllWait, BeginsInner, EndsInnermost, FedFile, FedFiles, FeedsInnermost, MakesLines, StackState, StandForFiles, StandsForFiles, WaitsFor, WritesForFiles, ended_by, fed_ended, fed_inner, fed_more, feeds_in, line_after_text, main_alone, main_by, main_file, stop_line, with_inner}
-use Rattle.zone_files.specs.Machine.Stacking.{EndsOutward, EndsSoFar, GivesOn, StopsText, TakesPart}
+use Rattle.zone_files.specs.Machine.Stacking.{EndsOutward, EndsSoFar, GivesOn, IsSameOrShorter, StopsText, TakesPart}
 use Rattle.zone_files.specs.Places.{counted}
 use Rattle.zone_files.specs.declared.expansion.progress.FileStatus.{FileStatus}
 use Rattle.zone_files.specs.declared.expansion.progress.FileStatus.TheVariants as statuses
@@ -289,40 +289,40 @@ module _ (ending : Ending) (after : (last : Bool) (start h : Holds) (fed : List 
       (awaits inner.octets inner.files own ending
       (subst (λ h. Expands h inner.octets inner.files own ending) (waits.inside ∙ ap (λ (n : NamedFile). within n.name n.origin s.holds) same) x))))
 
-module _ (directory : Option (List ℕ)) (name : List ℕ) (origin : Labels) (s : StackState) (fed : FedFiles) (text : List ℕ) (st : StandsForFiles s (at_first directory name origin) fed text) where
-  expanded_by : (status : FileStatus) (ending : Ending) → s.innermost.status ≡ status → stop_line status ≡ last_line ending → Expands (at_first directory name origin) (main_file fed).octets (main_file fed).files (st.stand.earlier ++ st.stand.own) ending
-      → IsExpanded directory name origin (main_file fed).octets (main_file fed).files text ending
+module _ (lines : List ℕ) (directory : Option (List ℕ)) (name : List ℕ) (origin : Labels) (s : StackState) (fed : FedFiles) (text : List ℕ) (st : StandsForFiles s (first_without lines directory name origin) fed text) where
+  expanded_by : (status : FileStatus) (ending : Ending) → s.innermost.status ≡ status → stop_line status ≡ last_line ending → Expands (first_without lines directory name origin) (main_file fed).octets (main_file fed).files (st.stand.earlier ++ st.stand.own) ending
+      → IsExpandedWithout lines directory name origin (main_file fed).octets (main_file fed).files text ending
   expanded_by status ending is line x = record {
     written = st.given;
-    expands = subst (λ t. Expands (at_first directory name origin) (main_file fed).octets (main_file fed).files t ending) (sym st.stand.given_is) x;
+    expands = subst (λ t. Expands (first_without lines directory name origin) (main_file fed).octets (main_file fed).files t ending) (sym st.stand.given_is) x;
     expanded_is = st.text_is ∙ ap (λ t. st.given ++ stop_line t) is ∙ ap (λ t. st.given ++ t) line;
   }
 
   innermost_by : (status : FileStatus) → s.innermost.status ≡ status → StandsBy status s.innermost st.stand.start fed.innermost.octets fed.innermost.files st.stand.own
   innermost_by status is = subst (λ t. StandsBy t s.innermost st.stand.start fed.innermost.octets fed.innermost.files st.stand.own) is st.stand.innermost
 
-  pub broken_text : s.innermost.status ≡ statuses.BrokenOff → IsExpanded directory name origin (main_file fed).octets (main_file fed).files text breaks_off
+  pub broken_text : s.innermost.status ≡ statuses.BrokenOff → IsExpandedWithout lines directory name origin (main_file fed).octets (main_file fed).files text breaks_off
   broken_text is = expanded_by statuses.BrokenOff breaks_off is refl
-      (main_ends breaks_off (λ last start h octets files given x. x) (at_first directory name origin) st.stand.start s.outer fed.outer st.stand.earlier st.stand.own fed.innermost st.stand.outer (innermost_by statuses.BrokenOff is))
+      (main_ends breaks_off (λ last start h octets files given x. x) (first_without lines directory name origin) st.stand.start s.outer fed.outer st.stand.earlier st.stand.own fed.innermost st.stand.outer (innermost_by statuses.BrokenOff is))
 
-  pub faulty_text : (fault : ExpansionFault) → s.innermost.status ≡ statuses.Faulty fault → IsExpanded directory name origin (main_file fed).octets (main_file fed).files text (stops fault)
+  pub faulty_text : (fault : ExpansionFault) → s.innermost.status ≡ statuses.Faulty fault → IsExpandedWithout lines directory name origin (main_file fed).octets (main_file fed).files text (stops fault)
   faulty_text fault is = expanded_by (statuses.Faulty fault) (stops fault) is refl
-      (main_ends (stops fault) (λ last start h octets files given x. x) (at_first directory name origin) st.stand.start s.outer fed.outer st.stand.earlier st.stand.own fed.innermost st.stand.outer (innermost_by (statuses.Faulty fault) is))
+      (main_ends (stops fault) (λ last start h octets files given x. x) (first_without lines directory name origin) st.stand.start s.outer fed.outer st.stand.earlier st.stand.own fed.innermost st.stand.outer (innermost_by (statuses.Faulty fault) is))
 
-  pub lacking_text : (value : ℕ) → s.innermost.status ≡ statuses.FaultyAt value → IsExpanded directory name origin (main_file fed).octets (main_file fed).files text (stops_at value)
+  pub lacking_text : (value : ℕ) → s.innermost.status ≡ statuses.FaultyAt value → IsExpandedWithout lines directory name origin (main_file fed).octets (main_file fed).files text (stops_at value)
   lacking_text value is = expanded_by (statuses.FaultyAt value) (stops_at value) is refl
-      (main_ends (stops_at value) (λ last start h octets files given x. x) (at_first directory name origin) st.stand.start s.outer fed.outer st.stand.earlier st.stand.own fed.innermost st.stand.outer (innermost_by (statuses.FaultyAt value) is))
+      (main_ends (stops_at value) (λ last start h octets files given x. x) (first_without lines directory name origin) st.stand.start s.outer fed.outer st.stand.earlier st.stand.own fed.innermost st.stand.outer (innermost_by (statuses.FaultyAt value) is))
 
-  alone : (outer : List FedFile) → AllWait (at_first directory name origin) st.stand.start [] outer st.stand.earlier → Expands st.stand.start fed.innermost.octets fed.innermost.files st.stand.own (ends s.innermost.holds)
-      → Expands (at_first directory name origin) (main_by fed.innermost outer).octets (main_by fed.innermost outer).files (st.stand.earlier ++ st.stand.own) (ends s.innermost.holds)
+  alone : (outer : List FedFile) → AllWait (first_without lines directory name origin) st.stand.start [] outer st.stand.earlier → Expands st.stand.start fed.innermost.octets fed.innermost.files st.stand.own (ends s.innermost.holds)
+      → Expands (first_without lines directory name origin) (main_by fed.innermost outer).octets (main_by fed.innermost outer).files (st.stand.earlier ++ st.stand.own) (ends s.innermost.holds)
   alone [] (begins, none) x =
-      subst (λ t. Expands (at_first directory name origin) fed.innermost.octets fed.innermost.files (t ++ st.stand.own) (ends s.innermost.holds)) (sym none)
+      subst (λ t. Expands (first_without lines directory name origin) fed.innermost.octets fed.innermost.files (t ++ st.stand.own) (ends s.innermost.holds)) (sym none)
       (subst (λ h. Expands h fed.innermost.octets fed.innermost.files st.stand.own (ends s.innermost.holds)) begins x)
   alone (other ∷ outer) all x = absurd all
 
-  pub ended_text : s.innermost.status ≡ statuses.Ended → s.outer ≡ [] → IsExpanded directory name origin (main_file fed).octets (main_file fed).files text (ends s.innermost.holds)
+  pub ended_text : s.innermost.status ≡ statuses.Ended → s.outer ≡ [] → IsExpandedWithout lines directory name origin (main_file fed).octets (main_file fed).files text (ends s.innermost.holds)
   ended_text is none = expanded_by statuses.Ended (ends s.innermost.holds) is refl
-      (alone fed.outer (subst (λ states. AllWait (at_first directory name origin) st.stand.start states fed.outer st.stand.earlier) none st.stand.outer) (innermost_by statuses.Ended is))
+      (alone fed.outer (subst (λ states. AllWait (first_without lines directory name origin) st.stand.start states fed.outer st.stand.earlier) none st.stand.outer) (innermost_by statuses.Ended is))
 
 -- ---- nothing yet
 
@@ -369,3 +369,14 @@ reversed_pop old new last s parts is = ap reverse parts ∙ ap (λ (o : Option E
 
 pub reversed_push : (old new : List ExpanderState) (s : ExpanderState) → new ≡ old ++ s ∷ [] → reverse new ≡ s ∷ reverse old
 reversed_push old new s parts = ap reverse parts ∙ reverse-append old (s ∷ [])
+
+-- ---- which file is the innermost one
+
+pub shorter_more : (start cur next : StackState) → IsSameOrShorter start cur → length cur.outer ≡ 1 + length next.outer → IsSameOrShorter start next
+shorter_more start cur next (inl same) outer = inr (omega (arith, same.1, outer))
+shorter_more start cur next (inr fewer) outer = inr (omega (arith, fewer, outer))
+
+-- what holds of the innermost file before others end with it
+pub holds_or_shorter : (P : ExpanderState → Type 0) (old mid cur new : StackState) (before after : List ℕ) → mid.outer ≡ old.outer → P mid.innermost → IsSameOrShorter mid cur → StopsText cur new before after → P new.innermost ⊎ (length new.outer < length old.outer)
+holds_or_shorter P old mid cur new before after outer p (inl same) stopped = inl (subst P (sym (stopped.innermost ∙ same.0)) p)
+holds_or_shorter P old mid cur new before after outer p (inr fewer) stopped = inr (omega (arith, fewer, ap length outer, ap length stopped.outer))

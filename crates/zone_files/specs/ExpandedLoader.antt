@@ -8,7 +8,7 @@ use Rattle.zone_set.specs.Zone.{Zone}
 use Rattle.zone_engine.specs.Refusal.{IfRefused}
 use Rattle.zone_words.specs.Refusal.{refused_of}
 use Rattle.zone_words.specs.Rewriting.{Refused}
-use Rattle.zone_files.specs.Expansion.{Ending, Files, Holds, IsExpanded}
+use Rattle.zone_files.specs.Expansion.{Ending, Files, Holds, IsExpandedWithout}
 use Rattle.zone_files.specs.FileExpander.{ExpanderState}
 use Rattle.zone_files.specs.IncludeStack.{FedFiles, StackState, StandsForFiles, fed_ended, fed_more}
 use Rattle.zone_files.specs.Loading.Fed.{LoadingState, StandsForPresentation}
@@ -52,12 +52,16 @@ pub record LoadsEnd (old new : ExpandedState) : Type 0 where
       → StandsForExpanded new origin first (fed_ended ended fed)
 
 -- A main file with the files that it includes denotes a zone: the one that its expanded text denotes.
-pub record FilesDenote (directory : Option (List ℕ)) (name : List ℕ) (origin : Labels)
-    (octets : List ℕ) (files : Files) (z : Zone) : Type 0 where
+-- The entries of these lines are taken out.
+pub record FilesDenoteWithout (lines : List ℕ) (directory : Option (List ℕ)) (name : List ℕ)
+    (origin : Labels) (octets : List ℕ) (files : Files) (z : Zone) : Type 0 where
   pub text : List ℕ
   pub ending : Ending
-  pub expanded : IsExpanded directory name origin octets files text ending
+  pub expanded : IsExpandedWithout lines directory name origin octets files text ending
   pub denotes : PresentationDenotes origin text z
+
+abbrev pub FilesDenote : Option (List ℕ) → List ℕ → Labels → List ℕ → Files → Zone → Type 0
+FilesDenote = FilesDenoteWithout []
 
 -- the line by which a text denotes no zone
 abbrev pub stopped : List ℕ

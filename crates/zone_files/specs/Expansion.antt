@@ -1,8 +1,8 @@
 -- The expanded text of a master file and those that it includes (RFC 1035 5.1), entry by entry. A
 -- file is its octets here: no file system is part of the definition. `$GENERATE`, which is BIND's,
 -- becomes its lines. Every other directive stays.
-use Rattle.std.specs.Prelude.{◌≡◌, ℕ, zero, ◌+◌, ◌<◌, List, [], ◌∷◌, ◌++◌, Bool, bytes_eq, codes, drop, false, length, true, Option, Some, None, Err, Ok}
-use Rattle.std.specs.List.{AllByRecursion, flat_map, list_any}
+use Rattle.std.specs.Prelude.{◌≡◌, ℕ, zero, ◌+◌, ◌==◌, ◌<◌, ◌&&◌, nat_le, nat_lt, List, [], ◌∷◌, ◌++◌, Bool, bytes_eq, codes, drop, false, length, replicate, true, Option, Some, None, Result, Err, Ok}
+use Rattle.std.specs.List.{AllByRecursion, count_by, flat_map, list_any}
 use Rattle.std.specs.Option.{option_or}
 use Rattle.zone_name.specs.Common.{Labels, NothingIs}
 use Rattle.zone_name.specs.Name.{folded_label}
@@ -22,6 +22,7 @@ use Rattle.zone_generate.specs.Lines.{AreLines, last_owner}
 use Rattle.zone_generate.specs.declared.failing.GenerateFault.{GenerateFault}
 use Rattle.zone_generate.specs.declared.failing.GenerateFault.TheVariants as unmade
 use Rattle.zone_files.specs.FileName.{NamesFile}
+use Rattle.zone_files.specs.Places.{counted}
 use Rattle.zone_files.specs.declared.fault.ExpansionFault.{ExpansionFault}
 use Rattle.zone_files.specs.declared.fault.ExpansionFault.TheVariants as faults
 
@@ -29,7 +30,8 @@ use Rattle.zone_files.specs.declared.fault.ExpansionFault.TheVariants as faults
 
 -- The origin and the last stated owner of its file, and the last owner that the expanded text
 -- states. Of the run: the directory, the names of the files that are open, the main file first, and
--- how many files were included so far.
+-- how many files were included so far; the line of the expanded text that comes next, from 1; and the
+-- lines of the expanded text whose entries are taken out, in their order.
 pub record Holds : Type 0 where
   pub origin : Labels
   pub owner : Option Labels
@@ -37,6 +39,19 @@ pub record Holds : Type 0 where
   pub directory : Option (List ℕ)
   pub open_files : List (List ℕ)
   pub opened : ℕ
+  pub line : ℕ
+  pub taken_out : List ℕ
+
+-- after so many lines
+abbrev pub after_count : ℕ → Holds → Holds
+after_count lines h = record h { line = counted (h.line + lines) }
+
+abbrev pub line_feeds : List ℕ → ℕ
+line_feeds text = count_by (λ c. c == 10) text
+
+-- after the lines of an entry
+abbrev pub past : List ℕ → Holds → Holds
+past entry h = after_count (line_feeds entry) h
 
 -- after an entry that names an origin, or none
 abbrev pub under : Option Labels → Holds → Holds
@@ -47,22 +62,41 @@ under None h = h
 abbrev pub owned_by : Option Labels → Holds → Holds
 owned_by named h = record h { owner = option_or named h.owner; stated = option_or named h.stated }
 
--- After the lines of a `$GENERATE`: the text states the owner of the last one, where it is a name.
--- The owner that holds in the file stays.
-abbrev pub after_lines : Option Labels → Holds → Holds
-after_lines named h = record h { stated = option_or named h.stated }
+-- after an owner that the expanded text alone states
+abbrev pub stating : Option Labels → Holds → Holds
+stating named h = record h { stated = option_or named h.stated }
 
--- for the first entry of a file that is included under an origin
+-- After the lines of a `$GENERATE`, one for each of its values: the text states the owner of the last
+-- one, where it is a name. The owner that holds in the file stays.
+abbrev pub after_lines : Option Labels → ℕ → Holds → Holds
+after_lines named values h = stating named (after_count values h)
+
+-- After an entry that is taken out: it states its owner, where that is a name, and nothing else.
+abbrev pub left_out : Option Labels → List ℕ → Holds → Holds
+left_out named entry h = record h {
+  owner = option_or named h.owner;
+  line = counted (h.line + line_feeds entry);
+  taken_out = drop 1 h.taken_out;
+}
+
+-- for the first entry of a file that is included under an origin, after the line of that
 abbrev pub within : List ℕ → Labels → Holds → Holds
 within name origin h = record h {
   origin = origin;
   open_files = h.open_files ++ name ∷ [];
   opened = h.opened + 1;
+  line = counted (h.line + 1);
 }
 
--- After the included file: its own origin and owner hold for no entry of the file that includes it.
+-- After the included file and a line with the origin that held before: the file's own origin and
+-- owner hold for no entry of the file that includes it.
 abbrev pub back_in : Holds → Holds → Holds
-back_in h inner = record h { stated = inner.stated; opened = inner.opened }
+back_in h inner = record h {
+  stated = inner.stated;
+  opened = inner.opened;
+  line = counted (inner.line + 1);
+  taken_out = inner.taken_out;
+}
 
 -- ---- what becomes of an entry
 
@@ -83,9 +117,9 @@ SpellsOwner origin (quoted text) name = ⊥
 -- where the expanded text states another one last. Where none holds in its file, the expanded text
 -- may state none.
 pub data WithOwner (h : Holds) (entry : List ℕ) (outcome : Outcome) : Type 0 where
-  same : h.owner ≡ h.stated → outcome ≡ stays entry h → WithOwner h entry outcome
+  same : h.owner ≡ h.stated → outcome ≡ stays entry (past entry h) → WithOwner h entry outcome
   another : (owner : Labels) → h.owner ≡ Some owner → (h.stated ≡ Some owner → ⊥)
-      → outcome ≡ stays (name_text owner ++ entry) (record h { stated = Some owner })
+      → outcome ≡ stays (name_text owner ++ entry) (stating (Some owner) (past entry h))
       → WithOwner h entry outcome
   none : (owner : Labels) → h.owner ≡ None → h.stated ≡ Some owner
       → outcome ≡ fails faults.NoOwner → WithOwner h entry outcome
@@ -144,7 +178,8 @@ pub data Generates (h : Holds) (items : List RawItem) (outcome : Outcome) : Type
   has_lines : (g : Generation) (lines : List ℕ) (fault : Option ℕ) (named : Option Labels)
       → generation_in items ≡ Ok g → AreLines g.templates g.values lines fault
       → IsOneOrNone (SpellsLast h.origin (last_owner g.templates g.values)) named
-      → outcome ≡ as_lines lines (after_lines named h) fault → Generates h items outcome
+      → outcome ≡ as_lines lines (after_lines named (length g.values) h) fault
+      → Generates h items outcome
 
 -- whether the first of the items is the word `$GENERATE`, in any letter case
 abbrev pub says_generate : List RawItem → Bool
@@ -154,26 +189,67 @@ says_generate items = false
 -- a directive that is neither RFC 1035's nor RFC 2308's
 abbrev pub DirectiveBecomes : Bool → Holds → List ℕ → List RawItem → Outcome → Type 0
 DirectiveBecomes true h entry items outcome = Generates h (drop 1 items) outcome
-DirectiveBecomes false h entry items outcome = outcome ≡ stays entry h
+DirectiveBecomes false h entry items outcome = outcome ≡ stays entry (past entry h)
 
 -- by what the entry says; `entry` is its text
 abbrev pub StatementBecomes : Holds → List ℕ → List RawItem → Statement → Outcome → Type 0
 StatementBecomes h entry items (sets_origin names) outcome =
     (named : Option Labels) × IsOneOrNone (NamesOrigin h.origin names) named
-    × (outcome ≡ stays entry (under named h))
+    × (outcome ≡ stays entry (under named (past entry h)))
 StatementBecomes h entry items (owned item rest) outcome =
     (named : Option Labels) × IsOneOrNone (SpellsOwner h.origin item) named
-    × (outcome ≡ stays entry (owned_by named h))
+    × (outcome ≡ stays entry (owned_by named (past entry h)))
 StatementBecomes h entry items (unowned rest) outcome = WithOwner h entry outcome
 StatementBecomes h entry items includes outcome = Includes h (drop 1 items) outcome
 StatementBecomes h entry items unknown outcome =
     DirectiveBecomes (says_generate items) h entry items outcome
-StatementBecomes h entry items form outcome = outcome ≡ stays entry h
+StatementBecomes h entry items form outcome = outcome ≡ stays entry (past entry h)
+
+-- ---- entries that are taken out
+
+-- how many lines a `$GENERATE` stands for: one for each value, and one where it has a fault
+abbrev pub values_or_one : Result Generation GenerateFault → ℕ
+values_or_one (Ok g) = length g.values
+values_or_one (Err fault) = 1
+
+abbrev pub lines_if : Bool → List RawItem → ℕ
+lines_if true items = values_or_one (generation_in (drop 1 items))
+lines_if false items = 1
+
+-- In how many lines of the expanded text a fault of the entry may be: in that with which it begins,
+-- or in each line of a `$GENERATE`.
+abbrev pub lines_of : Statement → List RawItem → ℕ
+lines_of unknown items = lines_if (says_generate items) items
+lines_of form items = 1
+
+-- whether the first of the lines whose entries are taken out is one of so many that come next
+abbrev pub is_next : List ℕ → ℕ → ℕ → Bool
+is_next [] line lines = false
+is_next (first ∷ others) line lines = nat_le line first && nat_lt first (line + lines)
+
+-- the owner that an entry states, if that is a name
+abbrev pub StatesOwner : Labels → Statement → Option Labels → Type 0
+StatesOwner origin (owned item rest) named = IsOneOrNone (SpellsOwner origin item) named
+StatesOwner origin form named = named ≡ None
+
+-- of an entry that is taken out, its line feeds stay
+abbrev pub IsTakenOut : Holds → List ℕ → Statement → Outcome → Type 0
+IsTakenOut h entry form outcome =
+    (named : Option Labels) × StatesOwner h.origin form named
+    × (outcome ≡ stays (replicate (line_feeds entry) 10) (left_out named entry h))
+
+abbrev pub TakenOutOr : Bool → Holds → List ℕ → List RawItem → Statement → Outcome → Type 0
+TakenOutOr true h entry items form outcome = IsTakenOut h entry form outcome
+TakenOutOr false h entry items form outcome = StatementBecomes h entry items form outcome
+
+-- by whether it is to be taken out, and what it says
+abbrev pub BecomesBy : Holds → List ℕ → List RawItem → Statement → Outcome → Type 0
+BecomesBy h entry items form =
+    TakenOutOr (is_next h.taken_out h.line (lines_of form items)) h entry items form
 
 abbrev pub EntryBecomes : Holds → List Token → Outcome → Type 0
 EntryBecomes h tokens outcome =
-    StatementBecomes h (text tokens) (flat_map item_of tokens) (statement_of (entry_of 1 tokens))
-    outcome
+    BecomesBy h (text tokens) (flat_map item_of tokens) (statement_of (entry_of 1 tokens)) outcome
 
 -- ---- a file
 
@@ -268,16 +344,22 @@ pub record Expands (h : Holds) (octets : List ℕ) (files : Files) (written : Li
   pub is_file : IsFile octets entries tail
   pub each : EachExpands (Opening files) h entries tail written ending
 
--- before the first entry of the main file
-abbrev pub at_first : Option (List ℕ) → List ℕ → Labels → Holds
-at_first directory name origin = record {
+-- before the first entry of the main file, of which the entries of these lines are taken out
+abbrev pub first_without : List ℕ → Option (List ℕ) → List ℕ → Labels → Holds
+first_without lines directory name origin = record {
   origin = origin;
   owner = None;
   stated = None;
   directory = directory;
   open_files = name ∷ [];
   opened = 0;
+  line = 1;
+  taken_out = lines;
 }
+
+-- of which none is taken out
+abbrev pub at_first : Option (List ℕ) → List ℕ → Labels → Holds
+at_first = first_without []
 
 -- a fault ends the text with a line by which it denotes no zone
 abbrev pub last_line : Ending → List ℕ
@@ -285,12 +367,18 @@ last_line (stops fault) = codes "$STOPPED" ++ 10 ∷ []
 last_line (stops_at value) = codes "$STOPPED" ++ 10 ∷ []
 last_line ending = []
 
--- the expanded text of a main file, and how it ends
-pub record IsExpanded (directory : Option (List ℕ)) (name : List ℕ) (origin : Labels)
-    (octets : List ℕ) (files : Files) (expanded : List ℕ) (ending : Ending) : Type 0 where
+-- The expanded text of a main file, of which the entries of these lines are taken out, and how it
+-- ends
+pub record IsExpandedWithout (lines : List ℕ) (directory : Option (List ℕ)) (name : List ℕ)
+    (origin : Labels) (octets : List ℕ) (files : Files) (expanded : List ℕ)
+    (ending : Ending) : Type 0 where
   pub written : List ℕ
-  pub expands : Expands (at_first directory name origin) octets files written ending
+  pub expands : Expands (first_without lines directory name origin) octets files written ending
   pub expanded_is : expanded ≡ written ++ last_line ending
+
+-- the expanded text of a main file, and how it ends
+abbrev pub IsExpanded : Option (List ℕ) → List ℕ → Labels → List ℕ → Files → List ℕ → Ending → Type 0
+IsExpanded = IsExpandedWithout []
 
 -- an entry that isn't expanded: neither `$INCLUDE` nor `$GENERATE`
 abbrev pub IsPlain : List Token → Type 0

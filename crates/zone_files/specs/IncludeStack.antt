@@ -1,7 +1,7 @@
 -- A main file that is expanded with the files that it includes, while they are read: what the files
 -- that are open stand for (RFC 1035 5.1). The reading in pieces is this project's own.
-use Rattle.std.specs.Prelude.{◌≡◌, ℕ, zero, suc, ◌+◌, ◌≤◌, ◌==◌, ◌⊎◌, List, [], ◌∷◌, ◌++◌, length, Option, Some, None, option_map}
-use Rattle.std.specs.List.{count_by}
+use Rattle.std.specs.Prelude.{◌≡◌, ℕ, zero, suc, ◌+◌, ◌-◌, ◌≤◌, ◌==◌, ◌⊎◌, List, [], ◌∷◌, ◌++◌, length, Option, Some, None, option_map}
+use Rattle.std.specs.List.{count_by, slice_get}
 use Rattle.zone_files.specs.Expansion.{Files, Holds, file, last_line, no_files, stops, stops_at, within}
 use Rattle.zone_files.specs.FileExpander.{ExpanderState, HasFewerLines, IsOver, NamedFile, StandsFor, then}
 use Rattle.zone_files.specs.Places.{counted}
@@ -83,6 +83,10 @@ wanted_by status s = None
 
 abbrev pub wanted_name : StackState → Option (List ℕ)
 wanted_name state = wanted_by state.innermost.status state.innermost
+
+-- the name of the file of which this holds: the last one that was opened of those that are open
+abbrev pub file_name : Holds → Option (List ℕ)
+file_name h = slice_get h.open_files (length h.open_files - 1)
 
 -- an expander that waits for a file, before whose first entry this holds
 pub record WaitsFor (s : ExpanderState) (fed : FedFile) (inner : Holds) : Type 0 where

@@ -6,9 +6,13 @@ pub mod FileName
 pub mod FileNameRefusal
 pub mod Places
 pub mod FaultLine
+pub mod PlacedLine
 pub mod Machine
 pub mod Expansion
 pub mod FileExpander
+pub mod Turns
 pub mod IncludeStack
 pub mod ExpandedLoader
 pub mod Reading
+pub mod FilesStopped
+pub mod FileTree

@@ -8,3 +8,4 @@ pub mod Expanding
 pub mod Stacking
 pub mod ExpandedLoading
 pub mod OpenReading
+pub mod StepsLeft

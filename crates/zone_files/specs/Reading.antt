@@ -1,6 +1,8 @@
 -- Main files that are read with the files that they include: which octets of which files (this
 -- project's own; RFC 1035 5.1 speaks of whole files).
 use Rattle.std.specs.Prelude.{◌≡◌, ℕ, ◌≤◌, List, [], ◌∷◌, ◌++◌, length, Option, Some, IfSome}
+use Rattle.std.specs.List.{AllByRecursion}
+use Rattle.zone_print.specs.Canonical.{text_limit}
 use Rattle.zone_print.specs.Device.{Device}
 use Rattle.zone_files.specs.Expansion.{Files, file, no_files}
 
@@ -19,6 +21,11 @@ OpensEach {S} Opens old (it ∷ others) new =
 abbrev pub octets_in : Files → List (List ℕ)
 octets_in no_files = []
 octets_in (file octets inner others) = octets ∷ (octets_in inner ++ octets_in others)
+
+-- none of the files has more octets than the limit
+abbrev pub AreWithinLimit : List ℕ → Files → Type 0
+AreWithinLimit octets files =
+    AllByRecursion (λ (each : List ℕ). length each ≤ text_limit) (octets ∷ octets_in files)
 
 -- a reader and the octets of its file, for each file
 abbrev pub EachFile : {F : Type 0} → (F → List ℕ → Type 0) → List (OpenedFile F) → List (List ℕ) → Type 0
@@ -39,7 +46,8 @@ module _ {F : Type 0} (state : F → Device) where
       IfSome (state reader).octets (λ known. (rest : List ℕ) × (known ≡ octets ++ rest))
 
 -- A main file and those that it includes were read to their ends: these are the octets that their
--- readers had to give, in the order in which they were opened. At most 10,000 were included.
+-- readers had to give, in the order in which they were opened. At most 10,000 were included, and none
+-- has more octets than the limit.
 pub record ReadsFiles {S F : Type 0} (Opens : S → List ℕ → Option F → S → Type 0)
     (state : F → Device) (main : F) (old new : S) (octets : List ℕ) (files : Files) : Type 0 where
   pub main_has : Has state main octets
@@ -47,6 +55,7 @@ pub record ReadsFiles {S F : Type 0} (Opens : S → List ℕ → Option F → S 
   pub opens : OpensEach Opens old opened new
   pub each : EachFile (Has state) opened (octets_in files)
   pub few : length opened ≤ 10000
+  pub within : AreWithinLimit octets files
 
 -- The same where some of the files weren't read to their ends: the octets that their readers had to
 -- give begin so.

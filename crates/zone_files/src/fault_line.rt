@@ -166,16 +166,16 @@ pub fn write_unreadable_main<W: OctetWriter>(writer: &mut W, name: &str) -> Resu
 
 /// What a line has before the place, piece by piece.
 #[derive(Clone, Copy)]
-struct Head<'t> {
-    letter: &'t [u8],
-    number: &'t [u8],
-    blank: &'t [u8],
-    name: &'t [u8],
+pub(crate) struct Head<'t> {
+    pub(crate) letter: &'t [u8],
+    pub(crate) number: &'t [u8],
+    pub(crate) blank: &'t [u8],
+    pub(crate) name: &'t [u8],
 }
 
 impl<'t> Head<'t> {
     /// Number and name of a fault.
-    fn of_row(number: &'t str, name: &'t str) -> Head<'t>
+    pub(crate) fn of_row(number: &'t str, name: &'t str) -> Head<'t>
         ensures { head_of result ≡ codes "F" ++ number.entry.now ++ codes " " ++ name.entry.now }
     {
         Head {
@@ -187,7 +187,7 @@ impl<'t> Head<'t> {
     }
 
     /// This one.
-    fn of_front(front: &'t [u8]) -> Head<'t>
+    pub(crate) fn of_front(front: &'t [u8]) -> Head<'t>
         ensures { head_of result ≡ front.entry.now }
     {
         Head {
@@ -201,28 +201,28 @@ impl<'t> Head<'t> {
 
 /// A place, piece by piece.
 #[derive(Clone, Copy)]
-struct PlacePieces<'t> {
-    at: &'t [u8],
-    name: &'t [u8],
-    colon: &'t [u8],
-    line: &'t [u8],
-    value_words: &'t [u8],
-    value: &'t [u8],
+pub(crate) struct PlacePieces<'t> {
+    pub(crate) at: &'t [u8],
+    pub(crate) name: &'t [u8],
+    pub(crate) colon: &'t [u8],
+    pub(crate) line: &'t [u8],
+    pub(crate) value_words: &'t [u8],
+    pub(crate) value: &'t [u8],
 }
 
 /// What a line has behind the place, piece by piece.
 #[derive(Clone, Copy)]
-struct Detail<'t> {
-    mnemonic: &'t [u8],
-    comma: &'t [u8],
-    field: &'t [u8],
-    colon: &'t [u8],
-    text: &'t [u8],
+pub(crate) struct Detail<'t> {
+    pub(crate) mnemonic: &'t [u8],
+    pub(crate) comma: &'t [u8],
+    pub(crate) field: &'t [u8],
+    pub(crate) colon: &'t [u8],
+    pub(crate) text: &'t [u8],
 }
 
 impl<'t> Detail<'t> {
     /// What is wrong.
-    fn of_text(text: &'t str) -> Detail<'t>
+    pub(crate) fn of_text(text: &'t str) -> Detail<'t>
         ensures { detail_of result ≡ text.entry.now }
     {
         Detail {
@@ -235,7 +235,7 @@ impl<'t> Detail<'t> {
     }
 
     /// The type and the field of an entry, and what is wrong.
-    fn of_entry(mnemonic: &'t str, field: &'t str, text: &'t str) -> Detail<'t>
+    pub(crate) fn of_entry(mnemonic: &'t str, field: &'t str, text: &'t str) -> Detail<'t>
         ensures { detail_of result ≡ mnemonic.entry.now ++ codes ", " ++ field.entry.now
             ++ codes ": " ++ text.entry.now }
     {
@@ -284,7 +284,7 @@ fn place_pieces<'t>(
 }
 
 /// The pieces of the place of an entry, after these octets.
-fn entry_pieces<'t>(
+pub(crate) fn entry_pieces<'t>(
     at: &'t [u8],
     place: EntryPlace<'t>,
     lines: &'t mut Buffer,
@@ -308,7 +308,7 @@ fn entry_pieces<'t>(
 
 /// Number, name and argument of a fault: the front of its line, which has the place of the whole
 /// input behind it.
-fn front_of<'l>(line: &'l [u8], fault: &Fault) -> &'l [u8]
+pub(crate) fn front_of<'l>(line: &'l [u8], fault: &Fault) -> &'l [u8]
     requires { line.now ≡ row_head (fault_row fault.now) ++ argument_of fault.now
         ++ codes " in the input" ++ codes ": " ++ (fault_row fault.now).text }
     ensures { result.now ≡ row_head (fault_row fault.now) ++ argument_of fault.now }
@@ -358,7 +358,7 @@ fn write_told<'t, W: OctetWriter>(
 
 /// Writes these pieces and a line feed.
 #[tactic(auto, using(crate::proofs::Pieces::written))]
-fn write_pieces<W: OctetWriter>(writer: &mut W, pieces: &[&[u8]]) -> Result<(), Stop>
+pub(crate) fn write_pieces<W: OctetWriter>(writer: &mut W, pieces: &[&[u8]]) -> Result<(), Stop>
     ensures written { OnOk result (WritesLine (flat_map (λ piece. piece.now) pieces.now)
         (W.state writer.old) (W.state writer.new)) }
     ensures part { OnErr result (WritesPartOfLine (flat_map (λ piece. piece.now) pieces.now)

@@ -29,6 +29,7 @@ ghost use Rattle.zone_files.specs.Presentation.{
 };
 
 pub mod expansion;
+pub mod files;
 pub mod stack;
 
 use words_print::laws::a_canonical_text_comes_back;

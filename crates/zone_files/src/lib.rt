@@ -10,6 +10,7 @@ mod file_name;
 mod files;
 pub mod laws;
 mod loading;
+mod placed_fault;
 mod places;
 mod stack;
 
@@ -26,5 +27,6 @@ pub use loading::{
     PresentationLoader, PresentationRefusal, SourceForm, accepted_source, compare_sources,
     normalise_source,
 };
+pub use placed_fault::{FileFault, write_placed_fault};
 pub use places::{FilePlace, Places, Stretch};
 pub use stack::{ExpandedLoader, ExpandedRefusal, IncludeStack, explain_source};

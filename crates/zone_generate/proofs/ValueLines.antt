@@ -22,6 +22,11 @@ values_more count step value some =
     let e : count ≡ suc (count - 1) = omega arith in
     ap (λ k. values_from k step value) e
 
+pub values_count : (count step value : ℕ) → count ≡ length (values_from count step value)
+unfolding values_from
+values_count zero step value = refl
+values_count (suc count) step value = ap suc (values_count count step (value + step))
+
 pub no_values : (count step value : ℕ) → count ≡ 0 → values_from count step value ≡ []
 unfolding values_from
 no_values count step value none = ap (λ k. values_from k step value) none

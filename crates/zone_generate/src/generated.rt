@@ -230,6 +230,13 @@ impl Generated {
         })
     }
 
+    /// For how many values lines are still to come.
+    pub fn values_left(&self) -> u64
+        ensures { result ≡ length self.now.values }
+    {
+        self.left.count
+    }
+
     /// The owner of the last line, as its template says it for the last value. `None`: it says nothing
     /// for it, or there are no more values.
     ///

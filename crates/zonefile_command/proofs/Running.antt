@@ -1,5 +1,5 @@
 -- From what is read, written and told to what a run leaves.
-use Rattle.std.proofs.Common.{◌≡◌, ◌-◌, ◌^◌, ◌++◌, ℕ, List, [], length, codes, subst, sym}
+use Rattle.std.proofs.Common.{◌≡◌, ◌-◌, ◌^◌, ◌++◌, ℕ, List, [], length, refl, subst, sym}
 use Rattle.std.proofs.KnownBytes.{Keeps-refl}
 use Rattle.std.specs.Prelude.{Option, None, Some, min, string_bytes}
 use Rattle.std.specs.Io.KnownBytes.{Appends}
@@ -7,20 +7,18 @@ use Rattle.zone_name.specs.Common.{Labels}
 use Rattle.zone_rdata.specs.declared.fault.Stop.{Stop}
 use Rattle.zone_rdata.specs.declared.fault.Stop.TheVariants.{Memory, Read, Refused, Write}
 use Rattle.zone_set.specs.Zone.{Zone}
-use Rattle.zone_print.specs.Canonical.{canon}
 use Rattle.zone_print.specs.Device.{Device, Fails, WorksOn}
 use Rattle.zone_print.specs.Writing.{IsFailedWrite}
-use Rattle.zone_engine.specs.Compare.{IsVerdictOnTexts}
-use Rattle.zone_engine.specs.Telling.{TellsLine, WritesLine, WritesPartOfLine, part, records_line, stop_line, stop_status, verdict_line, verdict_status, whole}
-use Rattle.zone_engine.specs.declared.comparison.Verdict.{Verdict}
+use Rattle.zone_engine.specs.Telling.{TellsLine, WritesLine, WritesPartOfLine, part, records_line, stop_line, stop_status, which_words, whole}
+use Rattle.zone_engine.specs.declared.comparison.Which.{Which}
+use Rattle.command_input.proofs.Answering.{not_answered}
+use Rattle.command_input.specs.Answering.{Answers, answered, outputs}
 use Rattle.zone_files.specs.Expansion.{Ending, Files, IsExpanded}
 use Rattle.zone_files.specs.Reading.{ReadsPart}
 use Rattle.zone_files.specs.declared.files.stop.FilesStop.{FilesStop}
-use Rattle.zonefile_command.specs.Inputs.{Folder, GivesNone, GivesZone}
-use Rattle.zonefile_command.specs.Run.{Answers, AppendsText, Compares, Expands, Explains, FailsText, Normalises, StopsText, TellsStop, answered, counted, expanded, in_part, judged, no_first, no_second, no_zone, normalised, outputs, refused, unanswered, unread, unwritten}
-use Rattle.zonefile_command.specs.Telling.{ShowsText}
-use Rattle.zonefile_command.specs.Telling as shows
-use Rattle.zonefile_command.specs.Told.{IsStopLine, TellsUnreadable, UnreadBy, files_status}
+use Rattle.zonefile_command.specs.Inputs.{Folder, GivesNone, GivesNoneOfTwo, GivesZone, path_of}
+use Rattle.zonefile_command.specs.Run.{AppendsText, Expands, Explains, FailsText, Normalises, StopsText, TellsOneOfTwo, TellsStop, counted, expanded, in_part, no_zone, normalised, refused, unread, unwritten}
+use Rattle.zonefile_command.specs.Told.{IsStopLine, TellsUnreadable, UnreadBy, files_status, main_line}
 use Rattle.zonefile_command.specs.declared.notation.Notation.{Notation}
 use Rattle.zonefile_command.specs.declared.order.FileSource.{FileSource}
 
@@ -33,23 +31,12 @@ fails old new Read failed = absurd failed
 fails old new Write failed = failed
 fails old new Memory failed = absurd failed
 
--- a line that wasn't written whole is told as a failed write
-pub not_told : (line : List ℕ) (answer : ℕ) (output output' errors errors' : Device) (why : Stop) (status : ℕ) → WritesPartOfLine line output output'
-    → IsFailedWrite output output' why → TellsLine (stop_line why) (stop_status why) errors errors' status
-    → Answers line answer (outputs output output' errors errors') status
-not_told line answer output output' errors errors' (Refused fault place) status written failed told = absurd failed
-not_told line answer output output' errors errors' Read status written failed told = absurd failed
-not_told line answer output output' errors errors' Write status written failed told = unanswered status written failed told
-not_told line answer output output' errors errors' Memory status written failed told = absurd failed
-
--- a text that wasn't written whole is told as a failed write
-pub not_shown : (text : List ℕ) (output output' errors errors' : Device) (why : Stop) (status : ℕ) → WritesPartOfLine text output output'
-    → IsFailedWrite output output' why → TellsLine (stop_line why) (stop_status why) errors errors' status
-    → ShowsText text output output' errors errors' status
-not_shown text output output' errors errors' (Refused fault place) status written failed told = absurd failed
-not_shown text output output' errors errors' Read status written failed told = absurd failed
-not_shown text output output' errors errors' Write status written failed told = shows.part status written failed told
-not_shown text output output' errors errors' Memory status written failed told = absurd failed
+-- all but a failed reader is told of the file of the command line as of any input
+pub main_as_input : (words path : List ℕ) (stop : Stop) → (stop ≡ Read → ⊥) → main_line words path stop ≡ words ++ stop_line stop
+main_as_input words path (Refused fault place) other = refl
+main_as_input words path Read other = absurd (other refl)
+main_as_input words path Write other = refl
+main_as_input words path Memory other = refl
 
 -- the file that can't be read is the one that is wanted, or the innermost one
 pub by_name : (wanted : Option (List ℕ)) (name : List ℕ) (Written : List ℕ → Type 0) → Some name ≡ wanted
@@ -77,7 +64,7 @@ module _ (words path : List ℕ) (stop : FilesStop) where
       → IsFailedWrite output output' why → TellsLine (stop_line why) (stop_status why) errors errors' status
       → (line : List ℕ) × IsStopLine words path stop line × Answers line 3 (outputs output output' errors errors') status
   refusal_untold output output' errors errors' why status (line, of, written) failed told =
-      (line, of, not_told line 3 output output' errors errors' why status written failed told)
+      (line, of, not_answered line 3 output output' errors errors' why status written failed told)
 
 -- ---- orders
 
@@ -137,21 +124,13 @@ module _ {S File : Type 0} (folder : Folder S File) (directory : Option (List �
       → Expands folder directory origin path old new (outputs output output' errors errors') status
   expands_in_part origin path old new stop status (line, of, told) = in_part stop line status of told
 
-  module _ (first second : FileSource) (old between new : S) where
-    pub gives_no_first : (text : List ℕ) (stop : FilesStop) (status : ℕ) → text ≡ string_bytes first.file → GivesNone folder first old new stop
-        → ((line : List ℕ) × IsStopLine (codes "first: ") text stop line × TellsLine line (files_status stop) errors errors' status)
-        → Compares folder directory first second old new (outputs output output errors errors') status
-    gives_no_first text stop status same none told = no_first stop status none (told_stop (codes "first: ") (string_bytes first.file) text stop output errors errors' status same told)
-
-    pub gives_no_second : (text : List ℕ) (z : Zone) (stop : FilesStop) (status : ℕ) → text ≡ string_bytes second.file → GivesZone folder directory first old between z
-        → GivesNone folder second between new stop
-        → ((line : List ℕ) × IsStopLine (codes "second: ") text stop line × TellsLine line (files_status stop) errors errors' status)
-        → Compares folder directory first second old new (outputs output output errors errors') status
-    gives_no_second text z stop status same gives none told =
-        no_second z between stop status gives none (told_stop (codes "second: ") (string_bytes second.file) text stop output errors errors' status same told)
-
-    pub judges : (z other : Zone) (verdict : Verdict) (status : ℕ) → GivesZone folder directory first old between z → GivesZone folder directory second between new other
-        → IsVerdictOnTexts verdict (canon z) (canon other)
-        → Answers (verdict_line verdict) (verdict_status verdict) (outputs output output' errors errors') status
-        → Compares folder directory first second old new (outputs output output' errors errors') status
-    judges z other verdict status gives gives_other on answers = judged z other between verdict status gives gives_other on answers
+  -- which of two inputs gives no zone is told
+  pub tells_one : (first second : FileSource) (old new : S) (which : Which) (stop : FilesStop) (status : ℕ) → GivesNoneOfTwo folder directory first second old new which stop
+      → ((line : List ℕ) × IsStopLine (which_words which) (path_of first second which) stop line × TellsLine line (files_status stop) errors errors' status)
+      → TellsOneOfTwo folder directory first second old new (outputs output output errors errors') status
+  tells_one first second old new which stop status none told = record {
+    which = which;
+    stop = stop;
+    none = none;
+    told = told_stop (which_words which) (path_of first second which) (path_of first second which) stop output errors errors' status refl told;
+  }

@@ -1,7 +1,7 @@
 -- From what is made of a zone's text, and written of it, to what is left.
-use Rattle.std.proofs.Common.{◌≡◌, ℕ, List, subst, sym}
+use Rattle.std.proofs.Common.{◌≡◌, ◌∙◌, ℕ, List, subst, sym}
 use Rattle.std.proofs.KnownBytes.{Keeps-refl}
-use Rattle.std.specs.Prelude.{Result, IfErr, IfOk, Ok, Err, OnErr, OnOk}
+use Rattle.std.specs.Prelude.{Result, IfErr, IfOk, IsErrAnd, Ok, Err, OnErr, OnOk}
 use Rattle.std.specs.Io.KnownBytes.{Appends}
 use Rattle.zone_rdata.specs.declared.fault.Stop.{Stop}
 use Rattle.zone_rdata.specs.declared.fault.Stop.TheVariants.{Memory, Read, Refused, Write}
@@ -11,7 +11,10 @@ use Rattle.zone_print.specs.Device.{Device}
 use Rattle.zone_print.specs.Writing.{AppendsPart, IsFailedWrite, StopsPush}
 use Rattle.zone_print.specs.Writing as pushes
 use Rattle.words_print.specs.Shown.{IsShownText}
-use Rattle.zonefile_command.specs.Run.{AppendsText, IsTextOf}
+use Rattle.zone_difference.specs.Difference.{AreChanges, Change}
+use Rattle.zone_difference.specs.Text.{changes_text}
+use Rattle.zone_difference.specs.declared.name_case.NameCase.{NameCase}
+use Rattle.zonefile_command.specs.Run.{AppendsText, IsTextOf, StopsChanges}
 use Rattle.zonefile_command.specs.declared.notation.Notation.{Notation}
 use Rattle.zonefile_command.specs.declared.notation.Notation.TheVariants.{Presentation}
 use Rattle.zonefile_command.specs.Presented.{StopsPresenting, StopsShowing, large, memory, stops, write}
@@ -39,3 +42,10 @@ pub appended : (notation : Notation) (z : Zone) (old new : Device) → notation 
     → Appends old.octets new.octets text → AppendsText notation z old new
 appended notation z old new same text is written =
     record { text = text; is = subst (λ (n : Notation). IsTextOf n z text) (sym same) is; written = written }
+
+-- the text of changes wasn't made
+pub unmade_changes : (case : NameCase) (z other : Zone) (device : Device) {T : Type 0} (r : Result T Stop) (why : Stop) → IsErrAnd r (λ e. e ≡ why)
+    → (why ≡ Memory) × ((changes : List Change) × AreChanges case z.records other.records changes) → IfErr r (StopsChanges case Presentation z other device device)
+unmade_changes case z other device (Ok x) why is made = tt
+unmade_changes case z other device (Err e) why is (short, (changes, are)) =
+    (changes, are, subst (λ (s : Stop). StopsShowing (changes_text changes) device device s) (sym (is ∙ short)) (memory (Keeps-refl _, λ w. w)))

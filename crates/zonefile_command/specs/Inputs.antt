@@ -10,6 +10,8 @@ use Rattle.zone_engine.specs.Form.{read_as_with}
 use Rattle.zone_engine.specs.Input.{InputDenotes, transfer}
 use Rattle.zone_engine.specs.Normalise.{IsOfReading}
 use Rattle.zone_engine.specs.Refusal.{IfRefused, IsRefusal}
+use Rattle.zone_engine.specs.declared.comparison.Which.{Which}
+use Rattle.zone_engine.specs.declared.comparison.Which.TheVariants.{First, Second}
 use Rattle.zone_files.specs.declared.files.stop.FilesStop.{FilesStop}
 use Rattle.zone_files.specs.declared.files.stop.FilesStop.TheVariants as stops
 use Rattle.zone_files.specs.ExpandedLoader.{FilesDenote}
@@ -65,6 +67,13 @@ StopsInput folder None main old new stop =
     (old ≡ new) × StopsTransfer (folder.device main).octets stop
 StopsInput folder (Some origin) main old new stop = Unit {0}
 
+-- Two inputs give these zones, one after the other.
+pub record GiveZones {S File : Type 0} (folder : Folder S File) (directory : Option (List ℕ))
+    (first second : FileSource) (old new : S) (z other : Zone) : Type 0 where
+  pub between : S
+  pub gives : GivesZone folder directory first old between z
+  pub gives_other : GivesZone folder directory second between new other
+
 -- why an input gives no zone: it can't be opened, or it is refused or can't be read
 pub data GivesNone {S File : Type 0} (folder : Folder S File) (source : FileSource) (old new : S)
     : FilesStop → Type 0 where
@@ -74,3 +83,18 @@ pub data GivesNone {S File : Type 0} (folder : Folder S File) (source : FileSour
       → folder.opens_main old (string_bytes source.file) (Some main) begun
       → StopsInput folder source.origin main begun new stop
       → GivesNone folder source old new stop
+
+-- Why two inputs give no zones, and which of them: the first that gives none.
+pub data GivesNoneOfTwo {S File : Type 0} (folder : Folder S File) (directory : Option (List ℕ))
+    (first second : FileSource) (old new : S) : Which → FilesStop → Type 0 where
+  no_first : (stop : FilesStop) → GivesNone folder first old new stop
+      → GivesNoneOfTwo folder directory first second old new First stop
+  no_second : (z : Zone) (between : S) (stop : FilesStop)
+      → GivesZone folder directory first old between z
+      → GivesNone folder second between new stop
+      → GivesNoneOfTwo folder directory first second old new Second stop
+
+-- the path of one of two inputs
+abbrev pub path_of : FileSource → FileSource → Which → List ℕ
+path_of first second First = string_bytes first.file
+path_of first second Second = string_bytes second.file

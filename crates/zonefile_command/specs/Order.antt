@@ -7,11 +7,13 @@ use Rattle.command_line.specs.declared.program.ArgumentKind.TheVariants.{Word, F
 use Rattle.command_input.specs.Order.{Gives, HasBadOrigin, HasFlag, HasText}
 use Rattle.zone_name.specs.Common.{Labels, NothingIs}
 use Rattle.zone_name.specs.Spelling.{SpellsCased}
+use Rattle.zone_difference.specs.declared.name_case.NameCase.{NameCase}
+use Rattle.zone_difference.specs.declared.name_case.NameCase.TheVariants.{Exact, Folded}
 use Rattle.zonefile_command.specs.declared.notation.Notation.{Notation}
 use Rattle.zonefile_command.specs.declared.notation.Notation.TheVariants.{Generic, Presentation}
 use Rattle.zonefile_command.specs.declared.order.FileSource.{FileSource}
 use Rattle.zonefile_command.specs.declared.order.Action.{Action}
-use Rattle.zonefile_command.specs.declared.order.Action.TheVariants.{Normalise, Explain, Compare, Expand}
+use Rattle.zonefile_command.specs.declared.order.Action.TheVariants.{Normalise, Explain, Compare, Difference, Expand}
 use Rattle.zonefile_command.specs.declared.order.Order.{Order}
 use Rattle.zonefile_command.specs.declared.no_order.NoOrder.{NoOrder}
 use Rattle.zonefile_command.specs.declared.no_order.NoOrder.TheVariants.{BadOrigin, NoCall}
@@ -29,18 +31,25 @@ abbrev pub normalise_arguments : List (Text × ArgumentKind)
 normalise_arguments =
     (codes "ORIGIN", Word) ∷ (codes "FILE", Word) ∷ (codes "words", Flag) ∷ directory_option ∷ []
 
+-- those of a command on two files, and more
+abbrev pub two_files : List (Text × ArgumentKind) → List (Text × ArgumentKind)
+two_files more =
+    (codes "ORIGIN1", Word) ∷ (codes "FILE1", Word) ∷ (codes "ORIGIN2", Word)
+    ∷ (codes "FILE2", Word) ∷ more
+
+-- those of `diff`
+abbrev pub diff_arguments : List (Text × ArgumentKind)
+diff_arguments =
+    two_files ((codes "exact", Flag) ∷ (codes "generic", Flag) ∷ directory_option ∷ [])
+
 -- the program's commands with their arguments
 abbrev pub commands : Commands
 commands =
     commands_of (codes "zonefile")
     (record { word = codes "normalise"; arguments = normalise_arguments }
     ∷ record { word = codes "explain"; arguments = one_file }
-    ∷ record {
-      word = codes "compare";
-      arguments =
-          (codes "ORIGIN1", Word) ∷ (codes "FILE1", Word) ∷ (codes "ORIGIN2", Word)
-          ∷ (codes "FILE2", Word) ∷ directory_option ∷ [];
-    }
+    ∷ record { word = codes "compare"; arguments = two_files (directory_option ∷ []) }
+    ∷ record { word = codes "diff"; arguments = diff_arguments }
     ∷ record { word = codes "expand"; arguments = one_file }
     ∷ [])
 
@@ -67,6 +76,20 @@ pub record IsSource (call : Called) (origin file : Text) (source : FileSource) :
 abbrev pub notation_for : Bool → Notation
 notation_for words = if words then Presentation else Generic
 
+-- how names in data are compared with `--exact`, and without it
+abbrev pub case_for : Bool → NameCase
+case_for exact = if exact then Exact else Folded
+
+-- the notation of a difference with `--generic`, and without it
+abbrev pub notation_of_changes : Bool → Notation
+notation_of_changes generic = if generic then Generic else Presentation
+
+-- what the texts of two origins and two files ask for
+abbrev pub AreSources : Called → FileSource → FileSource → Type 0
+AreSources call first second =
+    IsSource call (codes "ORIGIN1") (codes "FILE1") first
+    × IsSource call (codes "ORIGIN2") (codes "FILE2") second
+
 -- what a command with its texts asks for
 abbrev pub AsksFor : Called → Action → Type 0
 AsksFor call (Normalise source notation) =
@@ -75,8 +98,11 @@ AsksFor call (Normalise source notation) =
 AsksFor call (Explain source) =
     (call.0 ≡ codes "explain") × IsSource call (codes "ORIGIN") (codes "FILE") source
 AsksFor call (Compare first second) =
-    (call.0 ≡ codes "compare") × IsSource call (codes "ORIGIN1") (codes "FILE1") first
-    × IsSource call (codes "ORIGIN2") (codes "FILE2") second
+    (call.0 ≡ codes "compare") × AreSources call first second
+AsksFor call (Difference first second form) =
+    (call.0 ≡ codes "diff") × AreSources call first second
+    × HasFlag call (codes "exact") (λ given. form.name_case ≡ case_for given)
+    × HasFlag call (codes "generic") (λ given. form.notation ≡ notation_of_changes given)
 AsksFor call (Expand origin file) =
     (call.0 ≡ codes "expand")
     × HasText call (codes "ORIGIN") (λ text. IsFileOrigin text origin)

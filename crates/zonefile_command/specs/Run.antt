@@ -1,40 +1,34 @@
 -- What a run of an order reads, writes and returns (this project's own).
-use Rattle.std.specs.Prelude.{◌≡◌, ◌-◌, ◌^◌, ℕ, List, [], ◌++◌, codes, length, min, option_map, string_bytes, Option, Some}
+use Rattle.std.specs.Prelude.{◌≡◌, ◌-◌, ◌^◌, ℕ, Bool, if◌then◌else◌, List, [], length, min, option_map, string_bytes, Option, Some}
 use Rattle.std.specs.Io.KnownBytes.{Appends}
 use Rattle.zone_name.specs.Common.{Labels}
 use Rattle.zone_rdata.specs.declared.fault.Stop.{Stop}
-use Rattle.zone_rdata.specs.declared.fault.Stop.TheVariants as stops
 use Rattle.zone_set.specs.Zone.{Zone}
 use Rattle.zone_print.specs.Canonical.{canon, text_limit}
-use Rattle.zone_print.specs.Device.{Device, Fails, IsLeft, WorksOn}
+use Rattle.zone_print.specs.Device.{Device, IsLeft, WorksOn}
 use Rattle.zone_print.specs.Writing.{StopsWrite}
 use Rattle.zone_engine.specs.Compare.{IsVerdictOnTexts}
-use Rattle.zone_engine.specs.Telling.{TellsLine, WritesLine, WritesPartOfLine, records_line, stop_line, stop_status, verdict_line, verdict_status}
+use Rattle.zone_engine.specs.Telling.{TellsLine, records_line, stop_line, stop_status, verdict_line, verdict_status, which_words}
 use Rattle.zone_engine.specs.declared.comparison.Verdict.{Verdict}
+use Rattle.zone_engine.specs.declared.comparison.Which.{Which}
+use Rattle.zone_difference.specs.Difference.{AreChanges, Change}
+use Rattle.zone_difference.specs.Text.{IsWriteStop, WritesPart, changes_text, is_some_change}
+use Rattle.zone_difference.specs.declared.name_case.NameCase.{NameCase}
+use Rattle.command_input.specs.Answering.{Answers, Outputs}
 use Rattle.words_print.specs.Shown.{IsShownText}
 use Rattle.zone_files.specs.Expansion.{Ending, Files, IsExpanded}
 use Rattle.zone_files.specs.Reading.{ReadsPart}
 use Rattle.zone_files.specs.declared.files.stop.FilesStop.{FilesStop}
-use Rattle.zonefile_command.specs.Inputs.{Folder, GivesNone, GivesZone}
-use Rattle.zonefile_command.specs.Presented.{StopsPresenting}
+use Rattle.zonefile_command.specs.Inputs.{Folder, GiveZones, GivesNone, GivesNoneOfTwo, GivesZone, path_of}
+use Rattle.zonefile_command.specs.Presented.{StopsPresenting, StopsShowing}
 use Rattle.zonefile_command.specs.Told.{IsStopLine, files_status}
 use Rattle.zonefile_command.specs.declared.notation.Notation.{Notation}
 use Rattle.zonefile_command.specs.declared.notation.Notation.TheVariants.{Generic, Presentation}
 use Rattle.zonefile_command.specs.declared.order.Action.{Action}
-use Rattle.zonefile_command.specs.declared.order.Action.TheVariants.{Normalise, Explain, Compare, Expand}
+use Rattle.zonefile_command.specs.declared.order.Action.TheVariants.{Normalise, Explain, Compare, Difference, Expand}
+use Rattle.zonefile_command.specs.declared.order.DifferenceForm.{DifferenceForm}
 use Rattle.zonefile_command.specs.declared.order.FileSource.{FileSource}
 use Rattle.zonefile_command.specs.declared.order.Order.{Order}
-
--- standard output and standard error, before and after
-pub record Outputs : Type 1 where
-  pub output : Device
-  pub output' : Device
-  pub errors : Device
-  pub errors' : Device
-
-abbrev pub outputs : Device → Device → Device → Device → Outputs
-outputs output output' errors errors' =
-    record { output = output; output' = output'; errors = errors; errors' = errors' }
 
 -- ---- what is written
 
@@ -66,14 +60,6 @@ pub record FailsText (notation : Notation) (z : Zone) (o : Outputs) (status : �
   pub stopped : StopsText notation z o.output o.output' stop
   pub told : TellsLine (stop_line stop) (stop_status stop) o.errors o.errors' status
 
--- a line was written with this status; or the writer failed after a proper prefix of it, which is told
--- with status 4
-pub data Answers (line : List ℕ) (answer : ℕ) (o : Outputs) : ℕ → Type 0 where
-  answered : WritesLine line o.output o.output' → WorksOn o.output o.output'
-      → IsLeft o.errors o.errors' → Answers line answer o answer
-  unanswered : (status : ℕ) → WritesPartOfLine line o.output o.output' → Fails o.output o.output'
-      → TellsLine (stop_line stops.Write) 4 o.errors o.errors' status → Answers line answer o status
-
 -- why an input gives no zone is told, after these words, and nothing is written
 pub record TellsStop (words path : List ℕ) (stop : FilesStop) (o : Outputs) (status : ℕ) : Type 0
   where
@@ -81,6 +67,48 @@ pub record TellsStop (words path : List ℕ) (stop : FilesStop) (o : Outputs) (s
     pub is : IsStopLine words path stop line
     pub told : TellsLine line (files_status stop) o.errors o.errors' status
     pub output : IsLeft o.output o.output'
+
+-- ---- the changes from one zone to another
+
+-- the text of changes in a notation: a line for each, or what is shown for them
+abbrev pub IsTextOfChanges : Notation → List Change → List ℕ → Type 0
+IsTextOfChanges Generic changes text = text ≡ changes_text changes
+IsTextOfChanges Presentation changes text = IsShownText (changes_text changes) text
+
+-- the status of a difference: 1 if the zones differ, else 0
+abbrev pub difference_status : Bool → ℕ
+difference_status differ = if differ then 1 else 0
+
+-- the changes from one zone to another were written, if the zones differ
+pub record WritesTextOfChanges (case : NameCase) (notation : Notation) (z other : Zone)
+    (old new : Device) (differ : Bool) : Type 0 where
+  pub changes : List Change
+  pub are : AreChanges case z.records other.records changes
+  pub text : List ℕ
+  pub is : IsTextOfChanges notation changes text
+  pub written : Appends old.octets new.octets text
+  pub works : WorksOn old new
+  pub some : differ ≡ is_some_change changes
+
+-- what is left where the changes aren't written whole
+abbrev pub StopsChanges : NameCase → Notation → Zone → Zone → Device → Device → Stop → Type 0
+StopsChanges case Generic z other output output' stop =
+    WritesPart case z.records other.records output.octets output'.octets
+    × IsWriteStop output output' stop
+StopsChanges case Presentation z other output output' stop =
+    (changes : List Change) × AreChanges case z.records other.records changes
+    × StopsShowing (changes_text changes) output output' stop
+
+-- The changes were written, and nothing else, with the status of them. Or they weren't written whole,
+-- and this is told with its status.
+pub data TellsChanges (form : DifferenceForm) (z other : Zone) (o : Outputs) : ℕ → Type 0 where
+  written_whole : (differ : Bool)
+      → WritesTextOfChanges form.name_case form.notation z other o.output o.output' differ
+      → IsLeft o.errors o.errors' → TellsChanges form z other o (difference_status differ)
+  written_in_part : (stop : Stop) (status : ℕ)
+      → StopsChanges form.name_case form.notation z other o.output o.output' stop
+      → TellsLine (stop_line stop) (stop_status stop) o.errors o.errors' status
+      → TellsChanges form z other o status
 
 -- ---- orders
 
@@ -112,25 +140,38 @@ pub data Explains {S File : Type 0} (folder : Folder S File) (directory : Option
       → (files_status stop ≡ 3 → ⊥) → TellsStop [] (string_bytes source.file) stop o status
       → Explains folder directory source old new o status
 
+-- Why one of two inputs gives no zone is told, and nothing is written.
+pub record TellsOneOfTwo {S File : Type 0} (folder : Folder S File) (directory : Option (List ℕ))
+    (first second : FileSource) (old new : S) (o : Outputs) (status : ℕ) : Type 0 where
+  pub which : Which
+  pub stop : FilesStop
+  pub none : GivesNoneOfTwo folder directory first second old new which stop
+  pub told : TellsStop (which_words which) (path_of first second which) stop o status
+
 -- The verdict on the canonical texts of both zones is written: `same` with status 0, exactly if both
 -- inputs denote one zone, or the first line that differs with status 1. Of two inputs the first that
 -- gives no zone is told.
 pub data Compares {S File : Type 0} (folder : Folder S File) (directory : Option (List ℕ))
     (first second : FileSource) (old new : S) (o : Outputs) : ℕ → Type 0 where
-  judged : (z other : Zone) (between : S) (verdict : Verdict) (status : ℕ)
-      → GivesZone folder directory first old between z
-      → GivesZone folder directory second between new other
+  judged : (z other : Zone) (verdict : Verdict) (status : ℕ)
+      → GiveZones folder directory first second old new z other
       → IsVerdictOnTexts verdict (canon z) (canon other)
       → Answers (verdict_line verdict) (verdict_status verdict) o status
       → Compares folder directory first second old new o status
-  no_first : (stop : FilesStop) (status : ℕ) → GivesNone folder first old new stop
-      → TellsStop (codes "first: ") (string_bytes first.file) stop o status
+  not_compared : (status : ℕ) → TellsOneOfTwo folder directory first second old new o status
       → Compares folder directory first second old new o status
-  no_second : (z : Zone) (between : S) (stop : FilesStop) (status : ℕ)
-      → GivesZone folder directory first old between z
-      → GivesNone folder second between new stop
-      → TellsStop (codes "second: ") (string_bytes second.file) stop o status
-      → Compares folder directory first second old new o status
+
+-- The changes from the first zone to the second are written, with status 0 if there are none, and 1 if
+-- there are. Or they can't be written whole. Of two inputs the first that gives no zone is told.
+pub data ShowsDifference {S File : Type 0} (folder : Folder S File) (directory : Option (List ℕ))
+    (first second : FileSource) (form : DifferenceForm) (old new : S) (o : Outputs) : ℕ → Type 0
+  where
+    shown : (z other : Zone) (status : ℕ)
+        → GiveZones folder directory first second old new z other
+        → TellsChanges form z other o status
+        → ShowsDifference folder directory first second form old new o status
+    not_shown : (status : ℕ) → TellsOneOfTwo folder directory first second old new o status
+        → ShowsDifference folder directory first second form old new o status
 
 -- The expanded text of the file and those that it includes is written with status 0. Or a line says why
 -- it isn't whole.
@@ -154,6 +195,8 @@ RunsAction folder directory old new o status (Explain source) =
     Explains folder directory source old new o status
 RunsAction folder directory old new o status (Compare first second) =
     Compares folder directory first second old new o status
+RunsAction folder directory old new o status (Difference first second form) =
+    ShowsDifference folder directory first second form old new o status
 RunsAction folder directory old new o status (Expand origin path) =
     Expands folder directory origin (string_bytes path) old new o status
 

@@ -1,7 +1,8 @@
 //! The expanded text of files, as it is written.
 ghost use Rattle.std.specs.Prelude.{option_map};
 ghost use Rattle.zonefile_command.specs.Inputs.{folder};
-ghost use Rattle.zonefile_command.specs.Run.{Expands, outputs};
+ghost use Rattle.command_input.specs.Answering.{outputs};
+ghost use Rattle.zonefile_command.specs.Run.{Expands};
 
 use crate::files::ZoneFiles;
 use crate::telling::tell_stop;

@@ -2,12 +2,12 @@
 ghost use Rattle.std.specs.Prelude.{◌≤◌, IfErr, IfOk, IfSome, length, option_map};
 ghost use Rattle.zone_engine.specs.Input.{InputDenotes, transfer};
 ghost use Rattle.zone_print.specs.Canonical.{canon, text_limit};
-ghost use Rattle.zonefile_command.specs.Inputs.{FilesGive, GivesNone, GivesZone, StopsTransfer, folder};
+ghost use Rattle.zonefile_command.specs.Inputs.{FilesGive, GiveZones, GivesNone, GivesNoneOfTwo, GivesZone, StopsTransfer, folder};
 
 use crate::files::ZoneFiles;
 use crate::order::FileSource;
 use std::alloc::Global;
-use zone_engine::{Form, OctetReader, accepted_zone};
+use zone_engine::{Form, OctetReader, Which, accepted_zone};
 use zone_files::{FilesStop, load_files};
 use zone_name::CasedName;
 use zone_rdata::Stop;
@@ -71,5 +71,35 @@ fn zone_of_transfer<R: OctetReader + Drop>(alloc: Global, mut reader: R) -> Resu
     match accepted_zone(alloc, Form::Transfer, &mut reader) {
         Ok(zone) => Ok(zone),
         Err(stop) => Err(FilesStop::Input(stop)),
+    }
+}
+
+/// The zones of two inputs, one after the other.
+///
+/// # Errors
+///
+/// That of the first that gives none, and which it is.
+#[tactic(auto, using(crate::specs::Inputs::no_first, crate::specs::Inputs::no_second))]
+pub(crate) fn zones_of<S: ZoneFiles>(
+    alloc: Global,
+    directory: Option<&str>,
+    first: &FileSource,
+    second: &FileSource,
+    files: &mut S,
+) -> Result<(Zone, Zone), (Which, FilesStop)>
+    ensures zones { IfOk result (λ zones. GiveZones (folder S.opens_main S.opens S.File.state)
+        (option_map (λ folder. folder.now) directory.entry)
+        first.now second.now files.old files.new zones.0 zones.1) }
+    ensures short { IfOk result (λ zones. length (canon zones.0) ≤ text_limit) }
+    ensures none { IfErr result (λ stopped. GivesNoneOfTwo (folder S.opens_main S.opens S.File.state)
+        (option_map (λ folder. folder.now) directory.entry)
+        first.now second.now files.old files.new stopped.0 stopped.1) }
+{
+    match zone_of(alloc, directory, first, files) {
+        Ok(zone) => match zone_of(alloc, directory, second, files) {
+            Ok(other) => Ok((zone, other)),
+            Err(stop) => Err((Which::Second, stop)),
+        },
+        Err(stop) => Err((Which::First, stop)),
     }
 }

@@ -2,6 +2,7 @@
 #![tactic(auto)]
 
 mod command;
+mod differing;
 mod expanding;
 mod files;
 mod input;
@@ -16,6 +17,6 @@ mod telling;
 pub use files::ZoneFiles;
 pub use no_order::NoOrder;
 pub use notation::Notation;
-pub use order::{Action, FileSource, Order, order_after_name, order_of};
+pub use order::{Action, DifferenceForm, FileSource, Order, order_after_name, order_of};
 pub use program::run;
 pub use refusing::refuse;

@@ -1,14 +1,15 @@
 //! What a command line asks for.
-ghost use Rattle.std.specs.Prelude.{◌≡◌, codes, drop, map, option_map, IfErr, IfOk, string_bytes};
+ghost use Rattle.std.specs.Prelude.{◌≡◌, codes, drop, map, option_map, IfErr, IfOk, IsSome, string_bytes};
 ghost use Rattle.command_line.specs.Calls.{IsOneOf, text_of};
 ghost use Rattle.zonefile_command.specs.Machine.Ordering.{IsOfAction, IsOfOrigin};
-ghost use Rattle.zonefile_command.specs.Order.{AsksFor, IsFileOrigin, IsNoOrder, IsOriginText, Orders, commands, notation_for};
+ghost use Rattle.zonefile_command.specs.Order.{AreSources, AsksFor, IsFileOrigin, IsNoOrder, IsOriginText, Orders, case_for, commands, notation_for, notation_of_changes};
 
 use crate::command::PROGRAM;
 use crate::no_order::NoOrder;
 use crate::notation::Notation;
 use command_line::{Call, after_name, call_of};
 use std::alloc::{AllocError, Global};
+use zone_difference::NameCase;
 use zone_name::CasedName;
 
 /// The word that stands in the place of an origin if the input is a transfer.
@@ -26,6 +27,15 @@ pub struct FileSource {
     pub file: String,
 }
 
+/// How the difference of two zones is made and written.
+#[derive(Clone, Copy, Debug, PartialEq, Eq)]
+pub struct DifferenceForm {
+    /// How names in data are compared.
+    pub name_case: NameCase,
+    /// How records of further types are written.
+    pub notation: Notation,
+}
+
 /// What is to be done.
 #[derive(Debug, Drop)]
 pub enum Action {
@@ -35,6 +45,8 @@ pub enum Action {
     Explain(FileSource),
     /// Report whether two inputs denote one zone, or at which line their canonical texts differ.
     Compare(FileSource, FileSource),
+    /// Write the changes from the zone of one input to that of another.
+    Difference(FileSource, FileSource, DifferenceForm),
     /// Write the expanded text of the master file at this path, under this origin.
     Expand(CasedName, String),
 }
@@ -92,18 +104,16 @@ fn action_of(alloc: Global, call: &Call) -> Result<Action, NoOrder>
         }
         "explain" => Ok(Action::Explain(source_of(alloc, call.text("ORIGIN"), call.text("FILE"))?)),
         "compare" => {
-            let first = origin_of(call.text("ORIGIN1"))?;
-            let second = origin_of(call.text("ORIGIN2"))?;
-            Ok(Action::Compare(
-                FileSource {
-                    origin: first,
-                    file: String::from_str(alloc, call.text("FILE1"))?,
-                },
-                FileSource {
-                    origin: second,
-                    file: String::from_str(alloc, call.text("FILE2"))?,
-                },
-            ))
+            let (first, second) = sources_of(alloc, call)?;
+            Ok(Action::Compare(first, second))
+        }
+        "diff" => {
+            let (first, second) = sources_of(alloc, call)?;
+            let form = DifferenceForm {
+                name_case: case_of(call.flag("exact")),
+                notation: changes_notation(call.flag("generic")),
+            };
+            Ok(Action::Difference(first, second, form))
         }
         "expand" => {
             let origin = name_of(call.text("ORIGIN"))?;
@@ -120,6 +130,26 @@ fn notation_of(words: bool) -> Notation
     match words {
         true => Notation::Presentation,
         false => Notation::Generic,
+    }
+}
+
+/// How names in data are compared with the flag `--exact`, or without it.
+fn case_of(exact: bool) -> NameCase
+    ensures { result ≡ case_for exact }
+{
+    match exact {
+        true => NameCase::Exact,
+        false => NameCase::Folded,
+    }
+}
+
+/// The notation of a difference with the flag `--generic`, or without it.
+fn changes_notation(generic: bool) -> Notation
+    ensures { result ≡ notation_of_changes generic }
+{
+    match generic {
+        true => Notation::Generic,
+        false => Notation::Presentation,
     }
 }
 
@@ -144,6 +174,29 @@ fn source_of(alloc: Global, origin: &str, file: &str) -> Result<FileSource, NoOr
         origin: origin_of(origin)?,
         file: String::from_str(alloc, file)?,
     })
+}
+
+/// The inputs of a command on two. The origins are judged from the left.
+fn sources_of(alloc: Global, call: &Call) -> Result<(FileSource, FileSource), NoOrder>
+    requires first { IsSome (text_of call.now (codes "ORIGIN1")) }
+    requires first_file { IsSome (text_of call.now (codes "FILE1")) }
+    requires second { IsSome (text_of call.now (codes "ORIGIN2")) }
+    requires second_file { IsSome (text_of call.now (codes "FILE2")) }
+    ensures asked { IfOk result (λ sources. AreSources call.now sources.0 sources.1) }
+    ensures refused { IfErr result (IsOfAction call.now) }
+{
+    let first = origin_of(call.text("ORIGIN1"))?;
+    let second = origin_of(call.text("ORIGIN2"))?;
+    Ok((
+        FileSource {
+            origin: first,
+            file: String::from_str(alloc, call.text("FILE1"))?,
+        },
+        FileSource {
+            origin: second,
+            file: String::from_str(alloc, call.text("FILE2"))?,
+        },
+    ))
 }
 
 /// The origin that a text asks for, none for a transfer.

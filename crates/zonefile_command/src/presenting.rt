@@ -43,7 +43,11 @@ pub(crate) fn write_presented<W: OctetWriter>(
 ///
 /// `Memory` before the first octet; `Write` if the writer failed, after a proper prefix of it.
 #[tactic(auto, using(crate::proofs::Shown::unwritten, crate::specs::Presented::memory))]
-fn write_shown<W: OctetWriter>(alloc: Global, text: &[u8], writer: &mut W) -> Result<(), Stop>
+pub(crate) fn write_shown<W: OctetWriter>(
+    alloc: Global,
+    text: &[u8],
+    writer: &mut W,
+) -> Result<(), Stop>
     ensures text { OnOk result ((shown : List ℕ) × IsShownText text.now shown
         × Appends (W.state writer.old).octets (W.state writer.new).octets shown) }
     ensures works { OnOk result (WorksOn (W.state writer.old) (W.state writer.new)) }

@@ -2,32 +2,31 @@
 ghost use Rattle.std.specs.Prelude.{◌≡◌, ◌≤◌, ℕ, List, [], IfErr, OnOk, length, option_map, string_bytes};
 ghost use Rattle.zone_print.specs.Canonical.{canon};
 ghost use Rattle.zone_print.specs.Device.{IsLeft, WorksOn};
-ghost use Rattle.zone_engine.specs.Telling.{records_line, verdict_line, verdict_status};
+ghost use Rattle.command_input.specs.Answering.{Answers, outputs};
+ghost use Rattle.zone_engine.specs.Telling.{records_line};
 ghost use Rattle.zonefile_command.specs.Inputs.{folder};
-ghost use Rattle.zonefile_command.specs.Run.{Answers, AppendsText, Compares, Explains, Normalises, Runs, StopsText, outputs};
+ghost use Rattle.zonefile_command.specs.Run.{AppendsText, Compares, Explains, Normalises, Runs, StopsText};
 ghost use Rattle.zonefile_command.specs.Told.{IsStopLine, files_status};
 
+use crate::differing::show_difference;
 use crate::expanding::expand;
 use crate::files::ZoneFiles;
-use crate::input::zone_of;
+use crate::input::{zone_of, zones_of};
 use crate::notation::Notation;
 use crate::order::{Action, FileSource, Order};
 use crate::presenting::write_presented;
-use crate::telling::{status_of, tell_stop, write_stop};
-use command_input::{report, status};
+use crate::telling::{status_of, tell_stop, tell_stop_of, write_stop};
+use command_input::{answer_line, answer_verdict, report, status};
 use itoa::Buffer;
 use std::alloc::Global;
-use zone_engine::{Verdict, first_difference, write_line};
+use zone_engine::first_difference;
 use zone_files::FilesStop;
 use zone_print::{OctetWriter, write_zone};
 use zone_rdata::Stop;
 use zone_set::Zone;
 
-/// The exit status of a comparison of two zones that differ.
-const DIFFERENT: u8 = 1;
-
 /// The whole program over files, a writer and an error writer. It returns the exit status: 0 if the
-/// text was written, the zone was accepted or both are the same; 1 if two zones differ; 3 if an input
+/// text was written, the zone was accepted or nothing differs; 1 if two zones differ; 3 if an input
 /// is refused; 4 if reading, writing or memory failed. With 3 and 4 a line on the error writer says why,
 /// with the place in the file; `explain` writes it to the writer with 3. If `expand` has 3 or 4, what it
 /// wrote ends with a line `$STOPPED`, as far as the writer took it. No writer is flushed, and one that
@@ -51,6 +50,11 @@ pub fn run<S: ZoneFiles, W: OctetWriter, E: OctetWriter>(
         Action::Explain(source) => explain(alloc, directory, source, files, output, errors),
         Action::Compare(first, second) => {
             compare(alloc, directory, first, second, files, output, errors)
+        }
+        Action::Difference(first, second, form) => {
+            show_difference(
+                alloc, directory, first, second, *form, files, output, errors,
+            )
         }
         Action::Expand(origin, path) => {
             let path = path.as_str();
@@ -146,10 +150,7 @@ fn tell_count<W: OctetWriter, E: OctetWriter>(count: u64, output: &mut W, errors
 {
     let mut digits = Buffer::new();
     let line = digits.format(count);
-    match write_line(output, "accepted, records: ", line) {
-        Ok(()) => status::SUCCESS,
-        Err(stop) => report("", &stop, errors),
-    }
+    answer_line("accepted, records: ", line, status::SUCCESS, output, errors)
 }
 
 /// Writes why an input is refused, and returns the status.
@@ -183,32 +184,8 @@ fn compare<S: ZoneFiles, W: OctetWriter, E: OctetWriter>(
         first.now second.now files.old files.new
         (outputs (W.state output.old) (W.state output.new) (E.state errors.old) (E.state errors.new)) result }
 {
-    let zone = match zone_of(alloc, directory, first, files) {
-        Ok(zone) => zone,
-        Err(stop) => return tell_stop(errors, "first: ", first.file.as_str(), &stop),
-    };
-    match zone_of(alloc, directory, second, files) {
-        Ok(other) => tell_verdict(first_difference(&zone, &other), output, errors),
-        Err(stop) => tell_stop(errors, "second: ", second.file.as_str(), &stop),
-    }
-}
-
-/// Writes the line of a verdict, and returns its status. It allocates nothing.
-fn tell_verdict<W: OctetWriter, E: OctetWriter>(
-    verdict: Verdict,
-    output: &mut W,
-    errors: &mut E,
-) -> u8
-    ensures { Answers (verdict_line verdict) (verdict_status verdict)
-        (outputs (W.state output.old) (W.state output.new) (E.state errors.old) (E.state errors.new)) result }
-{
-    let mut digits = Buffer::new();
-    let (words, line, answer) = match verdict {
-        Verdict::Same => ("", "same", status::SUCCESS),
-        Verdict::Different(line) => ("different at line ", digits.format(line), DIFFERENT),
-    };
-    match write_line(output, words, line) {
-        Ok(()) => answer,
-        Err(stop) => report("", &stop, errors),
+    match zones_of(alloc, directory, first, second, files) {
+        Ok((zone, other)) => answer_verdict(first_difference(&zone, &other), output, errors),
+        Err((which, stop)) => tell_stop_of(errors, which, first, second, &stop),
     }
 }

@@ -2,9 +2,9 @@
 ghost use Rattle.zonefile_command.specs.Telling.{AnswersNoOrder};
 
 use crate::no_order::NoOrder;
-use command_input::{LineFault, report, status};
+use command_input::{LineFault, answer_line, status};
 use command_line::NoCall;
-use zone_engine::{OUT_OF_MEMORY, tell, write_line};
+use zone_engine::{OUT_OF_MEMORY, tell};
 use zone_print::OctetWriter;
 
 /// Prints why a command line is no order, and answers the status: help and the version on the writer,
@@ -25,10 +25,9 @@ pub fn refuse<W: OctetWriter, E: OctetWriter>(
             status::BAD_COMMAND_LINE,
         ),
         NoOrder::NoCall(no_call) => match no_call {
-            NoCall::Shown(text) => match write_line(output, "", text.as_str()) {
-                Ok(()) => status::SUCCESS,
-                Err(stop) => report("", &stop, errors),
-            },
+            NoCall::Shown(text) => {
+                answer_line("", text.as_str(), status::SUCCESS, output, errors)
+            }
             NoCall::Told(text) => tell(errors, "", text.as_str(), status::BAD_COMMAND_LINE),
             NoCall::Memory => tell(errors, "", OUT_OF_MEMORY, status::FAILED),
         },

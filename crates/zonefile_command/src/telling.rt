@@ -2,11 +2,13 @@
 ghost use Rattle.std.specs.Prelude.{◌≡◌, ◌++◌, ℕ, List, IfErr, OnErr, OnOk, option_map, Some, None};
 ghost use Rattle.zone_print.specs.Device.{WorksOn};
 ghost use Rattle.zone_print.specs.Writing.{IsFailedWrite};
-ghost use Rattle.zone_engine.specs.Telling.{TellsLine, WritesLine, WritesPartOfLine, stop_line, stop_status};
+ghost use Rattle.zone_engine.specs.Telling.{TellsLine, WritesLine, WritesPartOfLine, stop_line, stop_status, which_words};
+ghost use Rattle.zonefile_command.specs.Inputs.{path_of};
 ghost use Rattle.zonefile_command.specs.Told.{IsPlaced, IsStopLine, TellsText, TellsUnread, TellsUnreadable, files_status, main_line};
 
+use crate::order::FileSource;
 use command_input::status;
-use zone_engine::{OUT_OF_MEMORY, READ_FAILED, WRITE_FAILED, write_line, write_refusal};
+use zone_engine::{OUT_OF_MEMORY, READ_FAILED, WRITE_FAILED, Which, write_line, write_refusal};
 use zone_files::{
     EntryPlace, ExpandedRefusal, FaultPlace, FilesStop, IncludeStack, PresentationRefusal,
     write_data_fault, write_expansion_fault, write_fault, write_unreadable, write_unreadable_main,
@@ -29,6 +31,26 @@ pub(crate) fn tell_stop<E: OctetWriter>(
         Ok(()) => status_of(stop),
         Err(_) => status::FAILED,
     }
+}
+
+/// Prints why one of two inputs gives no zone, after which it is, and returns the status: 4 if that
+/// couldn't be printed.
+pub(crate) fn tell_stop_of<E: OctetWriter>(
+    errors: &mut E,
+    which: Which,
+    first: &FileSource,
+    second: &FileSource,
+    stop: &FilesStop,
+) -> u8
+    ensures { (line : List ℕ)
+        × IsStopLine (which_words which) (path_of first.now second.now which) stop.now line
+        × TellsLine line (files_status stop.now) (E.state errors.old) (E.state errors.new) result }
+{
+    let path = match which {
+        Which::First => first.file.as_str(),
+        Which::Second => second.file.as_str(),
+    };
+    tell_stop(errors, which.words(), path, stop)
 }
 
 /// The exit status if an input gives no zone.
@@ -122,12 +144,10 @@ fn write_main_stop<W: OctetWriter>(
     ensures works { OnOk result (WorksOn (W.state writer.old) (W.state writer.new)) }
     ensures failed { IfErr result (IsFailedWrite (W.state writer.old) (W.state writer.new)) }
 {
-    match stop {
-        Stop::Read => write_unreadable_main(writer, path),
-        Stop::Refused(fault, place) => write_refusal(writer, words, fault, *place),
-        Stop::Write => write_line(writer, words, WRITE_FAILED),
-        Stop::Memory => write_line(writer, words, OUT_OF_MEMORY),
-    }
+    let Stop::Read = stop else {
+        return write_input_stop(writer, words, stop);
+    };
+    write_unreadable_main(writer, path)
 }
 
 /// Writes why one input stopped a run.

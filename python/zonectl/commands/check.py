@@ -91,7 +91,7 @@ def run(given: argparse.Namespace, output: Output) -> int:
     if not asked:
         folders = " and ".join(given.operands) or "."
         raise Undone(f"no zone file found below {folders}: {counted(skipped, 'file')} skipped" if not given.list else "the list is empty")
-    came = list(zip(asked, at_once(asked, given.jobs, Checker(reader, given).came)))
+    came = list(zip(asked, at_once(asked, given.jobs, Checker(reader, given).came, output, lambda it: it.source.text)))
     included = frozenset(path for _, it in came if isinstance(it, Came) for path in it.included)
     came = [(it, what) for it, what in came if not (it.is_found and os.path.realpath(it.source.text) in included)]
     bad = sum(bool(what.status) for _, what in came)

@@ -7,7 +7,7 @@ import re
 from typing import Any
 
 from ..diff_text import github_of, json_of, json_of_one, text_of
-from ..difference import Difference, Ignored, difference_of
+from ..difference import Difference, Ignored, difference_of, ignored
 from ..errors import Failure, Status, Undone, Usage
 from ..files import Change, changed_since
 from ..nsupdate import parts_of
@@ -15,8 +15,7 @@ from ..options import Parser, add_output, add_sources, form_of, reader_of
 from ..outputs import Output
 from ..patch import patch_of
 from ..sources import File, Git, sources_of
-from ..texts import safe
-from ..types import OF_SIGNERS, in_the_text, type_number
+from ..texts import coloured, safe
 from ..zones import Copy
 
 ABOUT = """\
@@ -24,18 +23,6 @@ Prints how two copies of a zone differ, RRset by RRset. The first line is DIFFER
 serial, since no secondary will notice then. Names in RDATA compare without letter case (RFC 4343)."""
 LINES = 200
 FORMATS = ("text", "json", "patch", "nsupdate", "github")
-
-
-def ignored(text: str) -> Ignored:
-    """Returns what a LIST leaves out: serial, ttl, dnssec or types. Raises ValueError."""
-    names = tuple(it for it in text.split(",") if it)
-    types: set[int] = set()
-    for name in names:
-        if name == "dnssec":
-            types |= OF_SIGNERS
-        elif name not in ("serial", "ttl"):
-            types.add(type_number(name))
-    return Ignored(names, "serial" in names, "ttl" in names, frozenset(in_the_text(it).encode() for it in types))
 
 
 def lines(text: str) -> int:
@@ -93,9 +80,9 @@ def compared(a: Copy, b: Copy, form: str, given: argparse.Namespace, output: Out
     if form == "json":
         return output.answer(json_of(found, most), status, given.output)
     most = LINES if given.lines is None else most
-    is_on = output.has_colours and form == "text" and not given.output
-    text = github_of(found, most) if form == "github" else title + text_of(found, most, is_on)
-    return output.answer(text, status, given.output)
+    text = github_of(found, most) if form == "github" else title + text_of(found, most)
+    has_colours = output.has_colours and form == "text" and not given.output
+    return output.answer(coloured(text) if has_colours else text, status, given.output)
 
 
 def since(form: str, given: argparse.Namespace, output: Output) -> int:

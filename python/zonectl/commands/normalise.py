@@ -13,7 +13,7 @@ from ..outputs import Output
 from ..reading import stored_octets
 from ..sources import File, Source, sources_of
 from ..texts import alarm
-from ..zones import Copy, Reader
+from ..zones import Copy, Reader, file_name
 
 ABOUT = """\
 Prints the canonical text of a zone: two copies of a zone are the same if and only if their canonical texts are.
@@ -51,7 +51,7 @@ def run(given: argparse.Namespace, output: Output) -> int:
         return output.answer(object_of(copy, given.fold) if given.json else text_of(copy, given), Status.SAME, given.output)
     seen: set[str] = set()
     return max(output.failed(it) if isinstance(it, Failure) else it for it in at_once(
-        sources, 1, lambda source: written(reader.copy(source), given, output, seen)))
+        sources, 1, lambda source: written(reader.copy(source), given, output, seen), output, lambda it: it.text))
 
 
 def text_of(copy: Copy, given: argparse.Namespace) -> bytes:
@@ -68,11 +68,6 @@ def object_of(copy: Copy, is_folded: bool) -> dict[str, Any]:
         "records": [{"owner": owner, "ttl": int(ttl), "class": rdclass, "type": kind, "rdata": rdata}
                     for owner, ttl, rdclass, kind, rdata in lines],
     }
-
-
-def file_name(apex: str) -> str:
-    """Returns the name of a zone as that of a file. It has no `/`, and isn't `..`, since no label is empty."""
-    return apex.removesuffix(".").replace("/", "_") or "root"
 
 
 def written(copy: Copy, given: argparse.Namespace, output: Output, seen: set[str]) -> int:

@@ -61,32 +61,37 @@ def run(given: argparse.Namespace, output: Output) -> int:
     sources, reader = sources_of(given.operands), reader_of(given, output)
     wanted: list[Source | Sum] = [*sources, *(stored(given.check, reader) if given.check is not None else ())]
     worst, lines, sums = 0, "", []
-    for it, found in zip(wanted, at_once(wanted, given.jobs, lambda it: summed(it, reader, given.fold))):
+    for it, found in zip(wanted, at_once(wanted, given.jobs, lambda it: summed(it, reader, given.fold), output, source_text)):
         if isinstance(found, Failure):
             worst = max(worst, output.failed(found))
             continue
-        copy, now = found
+        now, records = found
         if isinstance(it, Source):
             lines += f"{now}\n"
-            sums.append(object_of(copy, now))
+            sums.append(object_of(now, records))
             continue
         result = "same" if now == it else "one-serial" if now.serial == it.serial else "different"
         text = {"one-serial": alarm(it.serial), "different": f"different: serial {now.serial}, was {it.serial}"}.get(result, result)
         worst = max(worst, 0 if now == it else 1)
         lines += f"{one_field(it.source)}: {text}\n"
-        sums.append(object_of(copy, now, result=result))
+        sums.append(object_of(now, records, result=result))
     found_sums = {"format": "zonectl-sum/1", "status": int(worst), "sums": sums}
     return output.answer(found_sums if given.json else lines, worst, given.output)
 
 
-def summed(it: Source | Sum, reader: Reader, is_folded: bool) -> tuple[Copy, Sum]:
-    """Returns a source, or that of a line, and its digest now. Raises Failure."""
+def source_text(it: Source | Sum) -> str:
+    """Returns the argument that names a source."""
+    return it.text if isinstance(it, Source) else it.source
+
+
+def summed(it: Source | Sum, reader: Reader, is_folded: bool) -> tuple[Sum, int]:
+    """Returns the digest of a source now, or of that of a line, and how many records it has. Raises Failure."""
     if isinstance(it, Source):
         copy, canonical = reader.copy(it), engine.CANONICAL + "-folded" * is_folded
     else:
         copy, canonical = again(it, reader), it.canonical
     text = folded_text(copy.text) if canonical.endswith("-folded") else copy.text
-    return copy, Sum(hashlib.sha256(text).hexdigest(), canonical, copy.serial, copy.apex, copy.source)
+    return Sum(hashlib.sha256(text).hexdigest(), canonical, copy.serial, copy.apex, copy.source), copy.records
 
 
 def again(it: Sum, reader: Reader) -> Copy:
@@ -101,9 +106,9 @@ def again(it: Sum, reader: Reader) -> Copy:
     return copy
 
 
-def object_of(copy: Copy, it: Sum, **more: str) -> dict[str, Any]:
+def object_of(it: Sum, records: int, **more: str) -> dict[str, Any]:
     """Returns a digest as an object."""
-    return {"source": it.source, "zone": it.zone, "serial": it.serial, "records": copy.records, "canonical": it.canonical,
+    return {"source": it.source, "zone": it.zone, "serial": it.serial, "records": records, "canonical": it.canonical,
             "sha256": it.sha256, **more}
 
 

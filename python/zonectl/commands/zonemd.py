@@ -69,4 +69,4 @@ def added(copy: Copy, given: argparse.Namespace) -> bytes:
     if given.record:
         return engine.presentation(record)
     kept = [it for it in lines if not (it.startswith(of_apex) and it.split(b" ", 4)[3] == b"TYPE63")]
-    return engine.presentation(engine.of_file(b"\n".join([*kept, record]), "."))
+    return engine.presentation(engine.canonical(b"\n".join([*kept, record]), "."))

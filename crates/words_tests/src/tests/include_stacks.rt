@@ -52,13 +52,13 @@ impl IncludedFiles for CaseFiles {
 
 /// What is expanded of a main file and the files that it includes.
 #[derive(Drop)]
-struct Expanded {
-    text: Vec<u8>,
-    stack: IncludeStack,
+pub(super) struct Expanded {
+    pub(super) text: Vec<u8>,
+    pub(super) stack: IncludeStack,
 }
 
 /// Expands the main file of a case, whose readers give so many octets at once.
-fn expand(alloc: Global, asked: &'static str, each: usize) -> Result<Expanded, Fail> {
+pub(super) fn expand(alloc: Global, asked: &'static str, each: usize) -> Result<Expanded, Fail> {
     let origin = CasedName::from_text(b"example.", None)?;
     let mut files = CaseFiles { asked, each };
     let Some(main) = files.open_included("main.zone") else {
@@ -84,7 +84,11 @@ fn expand(alloc: Global, asked: &'static str, each: usize) -> Result<Expanded, F
 }
 
 /// Appends `FILE:LINE`, and the value of a line of a `$GENERATE`.
-fn push_place(alloc: Global, out: &mut Vec<u8>, place: Option<EntryPlace<'_>>) -> Result<(), Fail> {
+pub(super) fn push_place(
+    alloc: Global,
+    out: &mut Vec<u8>,
+    place: Option<EntryPlace<'_>>,
+) -> Result<(), Fail> {
     let Some(place) = place else {
         return push_text(out, "nowhere");
     };

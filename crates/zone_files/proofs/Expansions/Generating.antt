@@ -1,5 +1,5 @@
 -- What becomes of a `$GENERATE`, as the code has it.
-use Rattle.std.proofs.Common.{◌≡◌, ℕ, List, [], ◌∷◌, Bool, false, codes, Option, Some, None, Err, Ok, refl, sym, ap, subst, ◌∙◌, inl}
+use Rattle.std.proofs.Common.{◌≡◌, ℕ, List, [], ◌∷◌, length, Bool, false, codes, Option, Some, None, Err, Ok, refl, sym, ap, subst, ◌∙◌, inl}
 use Rattle.std.specs.Prelude.{IsTrue, ◌↔◌}
 use Rattle.zone_name.specs.Name.{folded_label}
 use Rattle.zone_name.specs.Common.{Labels}
@@ -34,7 +34,7 @@ last_some origin said text found is p = subst (λ s. IsOneOrNone (SpellsLast ori
 
 -- ---- its lines, or its fault
 
-pub lines_stated : (old new : Holds) (items all : List RawItem) (g : Generation) (named : Option Labels) → items ≡ all → generation_in items ≡ Ok g → IsOneOrNone (SpellsLast old.origin (last_owner g.templates g.values)) named → new ≡ after_lines named old → GeneratesAs old all (steps.Generates g) new
+pub lines_stated : (old new : Holds) (items all : List RawItem) (g : Generation) (named : Option Labels) → items ≡ all → generation_in items ≡ Ok g → IsOneOrNone (SpellsLast old.origin (last_owner g.templates g.values)) named → new ≡ after_lines named (length g.values) old → GeneratesAs old all (steps.Generates g) new
 lines_stated old new items all g named same is spells held lines fault are =
     subst (λ h. Generates old all (as_lines lines h fault)) (sym held)
     (has_lines g lines fault named (ap generation_in (sym same) ∙ is) are spells refl)

@@ -1,7 +1,7 @@
 -- There is one expanded text.
-use Rattle.std.proofs.Common.{◌≡◌, ℕ, zero, List, [], ◌∷◌, ◌++◌, Bool, true, false, Option, Some, None, Err, Ok, refl, sym, ap, subst, ◌∙◌}
+use Rattle.std.proofs.Common.{◌≡◌, ℕ, zero, List, [], ◌∷◌, ◌++◌, length, Bool, true, false, Option, Some, None, Err, Ok, refl, sym, ap, subst, ◌∙◌}
 use Rattle.std.specs.List.{flat_map}
-use Rattle.std.specs.Prelude.{drop}
+use Rattle.std.specs.Prelude.{drop, replicate}
 use Rattle.zone_name.proofs.Spelling.Answered.{SpellsCased-once}
 use Rattle.zone_name.specs.Common.{AtMostOneIs, Labels}
 use Rattle.zone_name.specs.Text.{name_text}
@@ -17,7 +17,7 @@ use Rattle.zone_generate.proofs.ValueLines.{one_text}
 use Rattle.zone_generate.specs.Entry.{Generation, generation_in}
 use Rattle.zone_generate.specs.Lines.{AreLines, last_owner}
 use Rattle.zone_generate.specs.declared.failing.GenerateFault.{GenerateFault}
-use Rattle.zone_files.specs.Expansion.{AfterEntry, AfterIncluded, DirectiveBecomes, EachExpands, Ending, EntryBecomes, Expanding, Expands, Files, Generates, Holds, Included, Includes, Inside, IsExpanded, IsFile, MayOpen, Opening, Outcome, SpellsLast, SpellsOwner, StatementBecomes, StatesInclude, WithOwner, after_lines, another, as_lines, at_first, back_in, bad_include, bad_name, breaks_off, broken, each_with_line_feed, ends, fails, file, generate_fault, has_lines, is_opened, lacks_line, last_line, no_files, no_lines, none, opens, origin_line, owned_by, same, says_generate, stays, stops, stops_at, too_many, under, wants, whole, within}
+use Rattle.zone_files.specs.Expansion.{AfterEntry, AfterIncluded, DirectiveBecomes, EachExpands, Ending, EntryBecomes, Expanding, Expands, Files, Generates, Holds, Included, Includes, Inside, IsExpandedWithout, IsFile, MayOpen, Opening, Outcome, SpellsLast, SpellsOwner, StatementBecomes, StatesInclude, StatesOwner, TakenOutOr, WithOwner, after_lines, another, as_lines, back_in, bad_include, bad_name, breaks_off, broken, each_with_line_feed, ends, fails, file, first_without, generate_fault, has_lines, is_next, is_opened, lacks_line, last_line, left_out, line_feeds, lines_of, no_files, no_lines, none, opens, origin_line, owned_by, past, same, says_generate, stating, stays, stops, stops_at, too_many, under, wants, whole, within}
 use Rattle.zone_files.specs.Machine.Stepping.{included}
 use Rattle.zone_files.specs.FileName.{IsPath, NamesFile, absolute, relative}
 
@@ -40,6 +40,15 @@ owner_once : (origin : Labels) (item : RawItem) → AtMostOneIs (SpellsOwner ori
 owner_once origin (bare text) a b p q = SpellsCased-once (Some origin) text a b p q
 owner_once origin (quoted text) a b p q = absurd p
 
+states_once : (origin : Labels) (s : Statement) → AtMostOneIs (StatesOwner origin s)
+states_once origin (owned item rest) a b p q = one_or_none_once (SpellsOwner origin item) (owner_once origin item) a b p q
+states_once origin (unowned rest) a b p q = p ∙ sym q
+states_once origin (sets_origin names) a b p q = p ∙ sym q
+states_once origin (sets_ttl times) a b p q = p ∙ sym q
+states_once origin includes a b p q = p ∙ sym q
+states_once origin unknown a b p q = p ∙ sym q
+states_once origin no_items a b p q = p ∙ sym q
+
 same_included : (a b : Included) → a.file ≡ b.file → a.origin ≡ b.origin → a ≡ b
 same_included a b e f = ap (λ t. included t a.origin) e ∙ ap (λ o. included b.file o) f
 
@@ -53,7 +62,7 @@ with_owner_once h entry a b (same e p) (same f q) = p ∙ sym q
 with_owner_once h entry a b (same e p) (another owner is other q) = absurd (other (sym e ∙ is))
 with_owner_once h entry a b (same e p) (none owner is other q) = absurd (let no : None ≡ Some owner = sym is ∙ e ∙ other in cc)
 with_owner_once h entry a b (another owner is other p) (same e q) = absurd (other (sym e ∙ is))
-with_owner_once h entry a b (another owner is other p) (another owner' is' other' q) = let one : owner ≡ owner' = cc in p ∙ ap (λ o. stays (name_text o ++ entry) (record h { stated = Some o })) one ∙ sym q
+with_owner_once h entry a b (another owner is other p) (another owner' is' other' q) = let one : owner ≡ owner' = cc in p ∙ ap (λ o. stays (name_text o ++ entry) (stating (Some o) (past entry h))) one ∙ sym q
 with_owner_once h entry a b (another owner is other p) (none owner' is' other' q) = absurd (let no : Some owner ≡ None = sym is ∙ is' in cc)
 with_owner_once h entry a b (none owner is other p) (same e q) = absurd (let no : None ≡ Some owner = sym is ∙ e ∙ other in cc)
 with_owner_once h entry a b (none owner is other p) (another owner' is' other' q) = absurd (let no : None ≡ Some owner' = sym is ∙ is' in cc)
@@ -75,7 +84,8 @@ generates_once h items a b (has_lines g lines at named e are is p) (has_lines g'
     let one : g' ≡ g = cc (e, e') in
     let text = one_text g.templates g.values lines lines' at at' are (subst (λ (t : Generation). AreLines t.templates t.values lines' at') one are') in
     let name : named ≡ named' = one_or_none_once (SpellsLast h.origin (last_owner g.templates g.values)) (last_once h.origin (last_owner g.templates g.values)) named named' is (subst (λ (t : Generation). IsOneOrNone (SpellsLast h.origin (last_owner t.templates t.values)) named') one is') in
-    p ∙ ap (λ t. as_lines t (after_lines named h) at) text.0 ∙ ap (λ n. as_lines lines' (after_lines n h) at) name ∙ ap (as_lines lines' (after_lines named' h)) text.1 ∙ sym q
+    p ∙ ap (λ t. as_lines t (after_lines named (length g.values) h) at) text.0 ∙ ap (λ n. as_lines lines' (after_lines n (length g.values) h) at) name
+    ∙ ap (as_lines lines' (after_lines named' (length g.values) h)) text.1 ∙ ap (λ (t : Generation). as_lines lines' (after_lines named' (length t.values) h) at') (sym one) ∙ sym q
 
 directive_once : (test : Bool) (h : Holds) (entry : List ℕ) (items : List RawItem) → AtMostOneIs (DirectiveBecomes test h entry items)
 directive_once true h entry items a b p q = generates_once h (drop 1 items) a b p q
@@ -120,16 +130,22 @@ module _ (one_name : OneName) where
       p ∙ ap (λ t. opens t it.origin) one ∙ ap (λ (i : Included). opens name' i.origin) same_it ∙ sym q
 
   statement_once : (h : Holds) (entry : List ℕ) (items : List RawItem) (s : Statement) → AtMostOneIs (StatementBecomes h entry items s)
-  statement_once h entry items (sets_origin names) a b p q = p.2 ∙ ap (λ o. stays entry (under o h)) (one_or_none_once (NamesOrigin h.origin names) (origin_once h.origin names) p.0 q.0 p.1 q.1) ∙ sym q.2
-  statement_once h entry items (owned item rest) a b p q = p.2 ∙ ap (λ o. stays entry (owned_by o h)) (one_or_none_once (SpellsOwner h.origin item) (owner_once h.origin item) p.0 q.0 p.1 q.1) ∙ sym q.2
+  statement_once h entry items (sets_origin names) a b p q = p.2 ∙ ap (λ o. stays entry (under o (past entry h))) (one_or_none_once (NamesOrigin h.origin names) (origin_once h.origin names) p.0 q.0 p.1 q.1) ∙ sym q.2
+  statement_once h entry items (owned item rest) a b p q = p.2 ∙ ap (λ o. stays entry (owned_by o (past entry h))) (one_or_none_once (SpellsOwner h.origin item) (owner_once h.origin item) p.0 q.0 p.1 q.1) ∙ sym q.2
   statement_once h entry items (unowned rest) a b p q = with_owner_once h entry a b p q
   statement_once h entry items includes a b p q = includes_once h (drop 1 items) a b p q
   statement_once h entry items no_items a b p q = p ∙ sym q
   statement_once h entry items (sets_ttl times) a b p q = p ∙ sym q
   statement_once h entry items unknown a b p q = directive_once (says_generate items) h entry items a b p q
 
+  taken_once : (test : Bool) (h : Holds) (entry : List ℕ) (items : List RawItem) (s : Statement) → AtMostOneIs (TakenOutOr test h entry items s)
+  taken_once true h entry items s a b p q = p.2 ∙ ap (λ o. stays (replicate (line_feeds entry) 10) (left_out o entry h)) (states_once h.origin s p.0 q.0 p.1 q.1) ∙ sym q.2
+  taken_once false h entry items s a b p q = statement_once h entry items s a b p q
+
   pub entry_once : (h : Holds) (tokens : List Token) → AtMostOneIs (EntryBecomes h tokens)
-  entry_once h tokens a b p q = statement_once h (text tokens) (flat_map item_of tokens) (statement_of (entry_of 1 tokens)) a b p q
+  entry_once h tokens a b p q =
+      let s : Statement = statement_of (entry_of 1 tokens) in
+      taken_once (is_next h.taken_out h.line (lines_of s (flat_map item_of tokens))) h (text tokens) (flat_map item_of tokens) s a b p q
 
   -- ---- a file
 
@@ -215,7 +231,7 @@ module _ (one_name : OneName) where
       each_once (Opening files) (opening_once files) q.entries h q.tail w o e l
       (subst (λ t. EachExpands (Opening files) h q.entries t w e) same.1 (subst (λ es. EachExpands (Opening files) h es p.tail w e) same.0 p.each)) q.each
 
-pub one_expanded : (directory : Option (List ℕ)) (name : List ℕ) (origin : Labels) (octets : List ℕ) (files : Files) (a b : List ℕ) (ending last : Ending) → IsExpanded directory name origin octets files a ending → IsExpanded directory name origin octets files b last → (a ≡ b) × (ending ≡ last)
-one_expanded directory name origin octets files a b ending last p q =
-    let one = expands_once one_name (at_first directory name origin) octets files p.written q.written ending last p.expands q.expands in
+pub one_expanded : (lines : List ℕ) (directory : Option (List ℕ)) (name : List ℕ) (origin : Labels) (octets : List ℕ) (files : Files) (a b : List ℕ) (ending last : Ending) → IsExpandedWithout lines directory name origin octets files a ending → IsExpandedWithout lines directory name origin octets files b last → (a ≡ b) × (ending ≡ last)
+one_expanded lines directory name origin octets files a b ending last p q =
+    let one = expands_once one_name (first_without lines directory name origin) octets files p.written q.written ending last p.expands q.expands in
     (p.expanded_is ∙ ap (λ t. t ++ last_line ending) one.text_same ∙ ap (λ e. q.written ++ last_line e) one.ending_same ∙ sym q.expanded_is, one.ending_same)

@@ -24,7 +24,7 @@ use Rattle.zone_text.specs.Tokens.{Token, Cuts, blank, closing, comment, is_blan
 use Rattle.zone_text.specs.Tokens as tokens
 use Rattle.zone_words.specs.Inherited.{IsOneOrNone}
 use Rattle.zone_words.specs.Origin.{NamesOrigin}
-use Rattle.zone_files.specs.Expansion.{DirectiveBecomes, EachExpands, Ending, Expanding, Files, HasPlainEntries, Holds, IsExpanded, IsFile, IsPlain, Opening, SpellsOwner, StatementBecomes, at_first, breaks_off, broken, each_with_line_feed, ends, last_line, owned_by, same, says_generate, stays, under, whole}
+use Rattle.zone_files.specs.Expansion.{DirectiveBecomes, EachExpands, Ending, EntryBecomes, Expanding, Files, HasPlainEntries, Holds, IsExpanded, IsFile, IsPlain, Opening, Outcome, SpellsOwner, StatementBecomes, TakenOutOr, at_first, breaks_off, broken, each_with_line_feed, ends, is_next, last_line, lines_of, owned_by, past, same, says_generate, stays, under, whole}
 
 -- ---- names, or none
 
@@ -54,13 +54,17 @@ owner_or_not origin is (quoted text) low = (None, (λ name h. h), tt)
 pub record IsOwn (h : Holds) : Type 0 where
   pub owner : h.owner ≡ h.stated
   pub name : IsCasedName h.origin
+  pub none_out : h.taken_out ≡ []
+
+own_past : (h : Holds) (entry : List ℕ) → IsOwn h → IsOwn (past entry h)
+own_past h entry own = record { owner = own.owner; name = own.name; none_out = own.none_out }
 
 own_under : (h : Holds) → IsOwn h → (named : Option Labels) → IfSome named IsCasedName → IsOwn (under named h)
 own_under h own None is = own
-own_under h own (Some name) is = record { owner = own.owner; name = is }
+own_under h own (Some name) is = record { owner = own.owner; name = is; none_out = own.none_out }
 
 own_owned : (h : Holds) → IsOwn h → (named : Option Labels) → IsOwn (owned_by named h)
-own_owned h own named = record { owner = ap (option_or named) own.owner; name = own.name }
+own_owned h own named = record { owner = ap (option_or named) own.owner; name = own.name; none_out = own.none_out }
 
 -- the items of a statement are octets
 abbrev IsLow : Statement → Type 0
@@ -90,15 +94,15 @@ abbrev HasOwn : Holds → List ℕ → List RawItem → Statement → Type 0
 HasOwn h entry items s = (next : Holds) × StatementBecomes h entry items s (stays entry next) × IsOwn next
 
 own_unknown : (h : Holds) → IsOwn h → (entry : List ℕ) (items : List RawItem) → says_generate items ≡ false → HasOwn h entry items unknown
-own_unknown h own entry items other = (h, subst (λ test. DirectiveBecomes test h entry items (stays entry h)) (sym other) refl, own)
+own_unknown h own entry items other = (past entry h, subst (λ test. DirectiveBecomes test h entry items (stays entry (past entry h))) (sym other) refl, own_past h entry own)
 
 own_statement : (h : Holds) → IsOwn h → (entry : List ℕ) (items : List RawItem) (s : Statement) → IsLow s → (s ≡ includes → ⊥) × (s ≡ unknown → says_generate items ≡ false) → HasOwn h entry items s
-own_statement h own entry items (sets_origin names) low none = let n = origin_or_not h.origin own.name names low in (under n.0 h, (n.0, n.1, refl), own_under h own n.0 n.2)
-own_statement h own entry items (owned item rest) low none = let n = owner_or_not h.origin own.name item low in (owned_by n.0 h, (n.0, n.1, refl), own_owned h own n.0)
-own_statement h own entry items (unowned rest) low none = (h, same own.owner refl, own)
+own_statement h own entry items (sets_origin names) low none = let n = origin_or_not h.origin own.name names low in (under n.0 (past entry h), (n.0, n.1, refl), own_under (past entry h) (own_past h entry own) n.0 n.2)
+own_statement h own entry items (owned item rest) low none = let n = owner_or_not h.origin own.name item low in (owned_by n.0 (past entry h), (n.0, n.1, refl), own_owned (past entry h) (own_past h entry own) n.0)
+own_statement h own entry items (unowned rest) low none = (past entry h, same own.owner refl, own_past h entry own)
 own_statement h own entry items includes low none = absurd (none.0 refl)
-own_statement h own entry items no_items low none = (h, refl, own)
-own_statement h own entry items (sets_ttl times) low none = (h, refl, own)
+own_statement h own entry items no_items low none = (past entry h, refl, own_past h entry own)
+own_statement h own entry items (sets_ttl times) low none = (past entry h, refl, own_past h entry own)
 own_statement h own entry items unknown low none = own_unknown h own entry items (none.1 refl)
 
 -- ---- the items of tokens of octets are octets
@@ -121,6 +125,12 @@ low_items (closing ∷ ts) low = low_items ts low.1
 low_items (line_feed ∷ ts) low = low_items ts low.1
 low_items (comment octets ∷ ts) low = low_items ts (back_low (token_text (comment octets)) (text ts) low)
 
+-- none is taken out
+not_out : (h : Holds) (tokens : List Token) (outcome : Outcome) → h.taken_out ≡ [] → StatementBecomes h (text tokens) (flat_map item_of tokens) (statement_of (entry_of 1 tokens)) outcome → EntryBecomes h tokens outcome
+not_out h tokens outcome none p =
+    let form : Statement = statement_of (entry_of 1 tokens) in
+    subst (λ lines. TakenOutOr (is_next lines h.line (lines_of form (flat_map item_of tokens))) h (text tokens) (flat_map item_of tokens) form outcome) (sym none) p
+
 -- ---- a file
 
 abbrev ArePlain : List (List Token) → Type 0
@@ -137,7 +147,7 @@ module _ (Opens : List ℕ → Labels → Expanding) where
   each_own (entry ∷ entries) h tail own none low =
       let s = own_statement h own (text entry) (flat_map item_of entry) (statement_of (entry_of 1 entry)) (low_statement (slice_get (text entry) 0) (flat_map item_of entry) (low_items entry (front_low (text entry) (flat_map text entries) low))) none.0 in
       let rest = each_own entries s.0 tail s.2 none.1 (back_low (text entry) (flat_map text entries) low) in
-      (rest.0, (stays (text entry) s.0, s.1, (flat_map text entries ++ behind tail, append_assoc (text entry) (flat_map text entries) (behind tail), rest.1)), rest.2)
+      (rest.0, (stays (text entry) s.0, not_out h entry (stays (text entry) s.0) own.none_out s.1, (flat_map text entries ++ behind tail, append_assoc (text entry) (flat_map text entries) (behind tail), rest.1)), rest.2)
 
 -- the text of the entries, with the line feed that the last one may lack
 with_feed : (ended : List (List Token)) (others : List Token) → (flat_map text (each_with_line_feed ended others) ≡ flat_map text (and_last ended others)) ⊎ (flat_map text (each_with_line_feed ended others) ≡ flat_map text (and_last ended others) ++ 10 ∷ [])
@@ -158,7 +168,7 @@ IsOwnText octets expanded = (expanded ≡ octets) ⊎ (expanded ≡ octets ++ 10
 module _ (directory : Option (List ℕ)) (name : List ℕ) (origin : Labels) (octets : List ℕ) (files : Files) (is : IsCasedName origin) where
   expands_own : (entries : List (List Token)) (tail : Option (List ℕ)) → IsFile octets entries tail → ArePlain entries → AreOctets (flat_map text entries) → (ending : Ending) × IsExpanded directory name origin octets files (flat_map text entries ++ behind tail) ending
   expands_own entries tail file none low =
-      let e = each_own (Opening files) entries (at_first directory name origin) tail (record { owner = refl; name = is }) none low in (
+      let e = each_own (Opening files) entries (at_first directory name origin) tail (record { owner = refl; name = is; none_out = refl }) none low in (
         e.0,
         record {
           written = flat_map text entries ++ behind tail;

@@ -1,5 +1,5 @@
 -- How the files that are open go on, before a fault ends the text.
-use Rattle.std.specs.Prelude.{◌≡◌, ℕ, ◌+◌, ◌≤◌, ◌⊎◌, List, ◌++◌, length}
+use Rattle.std.specs.Prelude.{◌≡◌, ℕ, ◌+◌, ◌≤◌, ◌<◌, ◌⊎◌, List, ◌++◌, length}
 use Rattle.zone_files.specs.Expansion.{Holds}
 use Rattle.zone_files.specs.IncludeStack.{FedFiles, StackState, StandForFiles, fed_ended, fed_more, feeds_in, stop_line}
 use Rattle.zone_files.specs.Places.{counted}
@@ -28,6 +28,12 @@ pub record EndsSoFar (start old new : StackState) (before after : List ℕ) : Ty
   pub outer : length start.outer ≡ ended + length new.outer
   pub gives : GivesOn start (fed_ended ended) new before after
   pub same : (new.innermost ≡ old.innermost) ⊎ (1 ≤ ended)
+
+-- no file has ended, or fewer wait
+abbrev pub IsSameOrShorter : StackState → StackState → Type 0
+IsSameOrShorter old new =
+    ((new.innermost ≡ old.innermost) × (length new.outer ≡ length old.outer))
+    ⊎ (length new.outer < length old.outer)
 
 -- Each file ends whose last entry included the one that ended, whatever was given since a start for
 -- the innermost file.

@@ -3,10 +3,10 @@ use Rattle.std.specs.Prelude.{◌≡◌, ℕ, List, ◌++◌, Option}
 use Rattle.std.specs.List.{slice_get}
 use Rattle.zone_name.specs.Common.{Labels}
 use Rattle.zone_rdata.specs.Item.{RawItem}
-use Rattle.zone_text.specs.Statements.{statement_by}
+use Rattle.zone_text.specs.Statements.{Statement, statement_by}
 use Rattle.zone_generate.specs.Entry.{Generation}
 use Rattle.zone_generate.specs.Lines.{AreLines}
-use Rattle.zone_files.specs.Expansion.{DirectiveBecomes, Generates, Holds, Included, Includes, Outcome, StatementBecomes, WithOwner, as_lines, fails, opens, says_generate, stays}
+use Rattle.zone_files.specs.Expansion.{BecomesBy, DirectiveBecomes, Generates, Holds, Included, Includes, IsTakenOut, Outcome, StatementBecomes, WithOwner, as_lines, fails, opens, says_generate, stays}
 use Rattle.zone_files.specs.declared.expansion.step.Step.{Step}
 use Rattle.zone_files.specs.declared.expansion.step.Step.TheVariants as steps
 
@@ -45,8 +45,18 @@ StepsTo Becomes old (steps.Fails fault) new before after =
 
 abbrev pub TakesEntry : Holds → List ℕ → List RawItem → Step → Holds → List ℕ → List ℕ → Type 0
 TakesEntry old entry items step new before after =
-    StepsTo (StatementBecomes old entry items (statement_by (slice_get entry 0) items)) old step new
+    StepsTo (BecomesBy old entry items (statement_by (slice_get entry 0) items)) old step new
     before after
+
+-- of an entry that isn't taken out
+abbrev pub Judges : Holds → List ℕ → List RawItem → Statement → Step → Holds → List ℕ → List ℕ → Type 0
+Judges old entry items form step new before after =
+    StepsTo (StatementBecomes old entry items form) old step new before after
+
+-- of one that is
+abbrev pub TakesOut : Holds → List ℕ → Statement → Step → Holds → List ℕ → List ℕ → Type 0
+TakesOut old entry form step new before after =
+    StepsTo (IsTakenOut old entry form) old step new before after
 
 abbrev pub Unowned : Holds → List ℕ → Step → Holds → List ℕ → List ℕ → Type 0
 Unowned old entry step new before after = StepsTo (WithOwner old entry) old step new before after

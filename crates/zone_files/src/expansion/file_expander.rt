@@ -1,7 +1,9 @@
 //! A file that is expanded while it is read, with those that it includes.
 ghost use Rattle.std.specs.Prelude.{◌≡◌, ◌++◌, ◌⊎◌, ◌≤◌, ℕ, suc, [], None, Some, IfNone, IfOk, IfSome, OnErr, OnOk, option_map};
-ghost use Rattle.zone_files.specs.Expansion.{at_first, no_files, within};
+ghost use Rattle.zone_files.specs.Expansion.{at_first, first_without, no_files, within};
 ghost use Rattle.zone_files.specs.FileExpander.{AddsWithin, Feeds, HasFewerLines, IsOver, NamedFile, StandsFor, TakesIncluded, WritesFor, lines_left};
+ghost use Rattle.zone_files.specs.IncludeStack.{file_name};
+ghost use Rattle.zone_files.specs.Turns.{EndsFile, GoesAfterLines, TakesSome};
 ghost use Rattle.zone_generate.specs.Entry.{Generation};
 ghost use Rattle.zone_generate.specs.Range.{values_from};
 ghost use Rattle.zone_files.specs.declared.expansion.progress.FileStatus.TheVariants.{Generating, Going, Including, Failed};
@@ -54,7 +56,30 @@ impl FileExpander {
             [] no_files []) }
         ensures going { IfOk result (λ made. made.status ≡ Going) }
     {
-        let holding = Holding::at_first(alloc, directory, name, origin)?;
+        FileExpander::without(alloc, &[], directory, name, origin)
+    }
+
+    /// An expander of the main file as [`FileExpander::new`] makes it, which takes out the entries of
+    /// these lines of the expanded text, in their order: of such an entry the line feeds stay, and an
+    /// entry after it that omits its owner has the one that it states. A line of a `$GENERATE` takes
+    /// out the whole entry. The lines are those of the expanded text without the entries before.
+    ///
+    /// # Errors
+    ///
+    /// `AllocError`.
+    pub fn without(
+        alloc: Global,
+        lines: &[u64],
+        directory: Option<&str>,
+        name: &str,
+        origin: &CasedName,
+    ) -> Result<FileExpander, AllocError>
+        ensures stands { IfOk result (λ made. StandsFor made (first_without lines.now
+            (option_map (λ folder. folder.now) directory.entry) name.now origin.now)
+            [] no_files []) }
+        ensures going { IfOk result (λ made. made.status ≡ Going) }
+    {
+        let holding = Holding::first_without(alloc, lines, directory, name, origin)?;
         Ok(FileExpander {
             expansion: FileExpansion::new(alloc, holding),
         })
@@ -71,6 +96,7 @@ impl FileExpander {
         ensures feeds { IfOk result (λ left.
             Feeds self.old piece.now left.now self.new out.old.items out.new.items) }
         ensures all { IfOk result (λ left. (left.now ≡ []) ⊎ IsOver self.new.status) }
+        ensures some { IfOk result (λ left. TakesSome self.old.status piece.now left.now) }
         ensures failed { OnErr result (self.new.status ≡ Failed) }
     {
         match self.expansion.feed(piece, out) {
@@ -91,6 +117,7 @@ impl FileExpander {
         ensures writes { OnOk result
             (WritesFor self.old [] self.new out.old.items out.new.items) }
         ensures ended { OnOk result (IsOver self.new.status) }
+        ensures last { OnOk result (EndsFile self.old self.new) }
         ensures failed { OnErr result (self.new.status ≡ Failed) }
     {
         match self.expansion.finish(out) {
@@ -186,6 +213,8 @@ impl FileExpander {
             (self.old.status ≡ Generating → HasFewerLines self.old self.new) }
         ensures within { OnOk result
             (AddsWithin self.old.generated out.old.items out.new.items) }
+        ensures after { OnOk result
+            (self.old.status ≡ Generating → GoesAfterLines self.old self.new) }
         ensures failed { OnErr result (self.new.status ≡ Failed) }
     {
         match self.expansion.generate(out) {
@@ -208,6 +237,31 @@ impl FileExpander {
             Some(lines) => lines.next_value(),
             None => None,
         }
+    }
+
+    /// How many lines come first, if the templates say something for each value: none where no
+    /// `$GENERATE` was met.
+    pub(crate) fn lines_left(&self) -> u64
+        ensures { result ≡ lines_left self.now.generated }
+    {
+        match &self.expansion.progress.generated {
+            Some(lines) => lines.values_left(),
+            None => 0,
+        }
+    }
+
+    /// The name under which the file was opened.
+    pub(crate) fn file_name(&self) -> Option<&str>
+        ensures { option_map (λ name. name.now) result ≡ file_name self.now.holds }
+    {
+        self.expansion.progress.holding.file_name()
+    }
+
+    /// How many files were included so far.
+    pub(crate) fn included_files(&self) -> u64
+        ensures { result ≡ self.now.holds.opened }
+    {
+        self.expansion.progress.holding.opened
     }
 
     /// How far the expansion of the file has come.

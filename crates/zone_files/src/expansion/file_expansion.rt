@@ -1,6 +1,7 @@
 //! A file that is expanded while it is read.
 ghost use Rattle.std.specs.Prelude.{◌≡◌, ◌<◌, ◌≤◌, ◌+◌, ◌++◌, ◌∷◌, ◌⊎◌, [], ℕ, List, None, Some, length, map, take, true, false, IfOk, OnOk, OnErr};
 ghost use Rattle.zone_files.specs.FileExpander.{AddsWithin, HasFewerLines, IsOver};
+ghost use Rattle.zone_files.specs.Turns.{EndsFile, GoesAfterLines, TakesSome};
 ghost use Rattle.zone_files.specs.Machine.Expanding.{EntersLast, EntersOctets, Follows, IsExpander, TakesFront, TakesInner, state_of};
 ghost use Rattle.zone_files.specs.declared.expansion.progress.FileStatus.TheVariants.{Broken, Ended, Generating, Going, Including, Failed};
 ghost use Rattle.zone_text.specs.declared.open_entry.EntryState.TheVariants.{Open};
@@ -34,6 +35,8 @@ impl FileExpansion {
         ensures front { IfOk result (λ left. TakesFront self.old piece.now left.now self.new
             out.old.items out.new.items) }
         ensures all { IfOk result (λ left. (left.now ≡ []) ⊎ IsOver self.new.progress.status) }
+        ensures some { IfOk result
+            (λ left. TakesSome self.old.progress.status piece.now left.now) }
     {
         let mut items = Vec::new(self.alloc);
         let mut rest = piece;
@@ -143,6 +146,7 @@ impl FileExpansion {
         ensures ended { OnOk result (IsOver self.new.progress.status) }
         ensures follows { OnOk result
             (Follows self.old [] self.new out.old.items out.new.items) }
+        ensures last { OnOk result (EndsFile (state_of self.old) (state_of self.new)) }
     {
         if self.progress.is_broken() {
             self.progress.status = FileStatus::BrokenOff;
@@ -204,6 +208,8 @@ impl FileExpansion {
             → HasFewerLines (state_of self.old) (state_of self.new)) }
         ensures within { OnOk result
             (AddsWithin self.old.progress.generated out.old.items out.new.items) }
+        ensures after { OnOk result (self.old.progress.status ≡ Generating
+            → GoesAfterLines (state_of self.old) (state_of self.new)) }
     {
         if !self.progress.is_generating() {
             return Ok(());
@@ -227,7 +233,9 @@ impl FileExpansion {
         match inner.progress.status {
             FileStatus::Ended => {
                 push_origin_line(&self.progress.holding.origin, out)?;
-                self.progress.holding.back(&inner.progress.holding);
+                self.progress
+                    .holding
+                    .back(self.alloc, &inner.progress.holding)?;
                 self.progress.status = end_of(self.progress.last);
                 Ok(())
             }

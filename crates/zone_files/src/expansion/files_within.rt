@@ -1,6 +1,6 @@
 //! What holds at the beginning of a file.
-ghost use Rattle.std.specs.Prelude.{◌≡◌, ◌≤◌, IfNone, IfOk, IfSome, option_map};
-ghost use Rattle.zone_files.specs.Expansion.{at_first, back_in, within};
+ghost use Rattle.std.specs.Prelude.{◌≡◌, ◌≤◌, IfNone, IfOk, IfSome, OnOk, option_map};
+ghost use Rattle.zone_files.specs.Expansion.{back_in, first_without, within};
 
 use crate::expansion::holding::Holding;
 use crate::expansion::including::MOST_OPENED;
@@ -52,16 +52,27 @@ fn copied_names(alloc: Global, names: &[FileName]) -> Result<Vec<FileName>, Allo
     Ok(made)
 }
 
+/// A copy of line numbers.
+fn copied_lines(alloc: Global, lines: &[u64]) -> Result<Vec<u64>, AllocError>
+    ensures { IfOk result (λ made. made.items ≡ lines.now) }
+{
+    let mut made = Vec::new(alloc);
+    made.extend_from_slice(lines)?;
+    Ok(made)
+}
+
 impl Holding {
-    /// What holds for the first entry of the main file.
-    pub(crate) fn at_first(
+    /// What holds for the first entry of the main file, of which the entries of these lines of the
+    /// expanded text are taken out.
+    pub(crate) fn first_without(
         alloc: Global,
+        lines: &[u64],
         directory: Option<&str>,
         name: &str,
         origin: &CasedName,
     ) -> Result<Holding, AllocError>
-        ensures { IfOk result (λ made. made
-            ≡ at_first (option_map (λ folder. folder.now) directory.entry) name.now origin.now) }
+        ensures { IfOk result (λ made. made ≡ first_without lines.now
+            (option_map (λ folder. folder.now) directory.entry) name.now origin.now) }
     {
         let directory = directory_of(alloc, directory)?;
         let mut open = Vec::new(alloc);
@@ -73,6 +84,8 @@ impl Holding {
             directory,
             open,
             opened: 0,
+            line: 1,
+            taken_out: copied_lines(alloc, lines)?,
         })
     }
 
@@ -105,14 +118,23 @@ impl Holding {
             directory,
             open,
             opened: self.opened + 1,
+            line: self.line.saturating_add(1),
+            taken_out: copied_lines(alloc, &self.taken_out)?,
         }))
     }
 
     /// Takes what an included file leaves.
-    pub(crate) fn back(&mut self, inner: &Holding)
-        ensures { self.new ≡ back_in self.old inner.now }
+    ///
+    /// # Errors
+    ///
+    /// `AllocError`.
+    pub(crate) fn back(&mut self, alloc: Global, inner: &Holding) -> Result<(), AllocError>
+        ensures { OnOk result (self.new ≡ back_in self.old inner.now) }
     {
+        self.taken_out = copied_lines(alloc, &inner.taken_out)?;
         self.stated = copied(&inner.stated);
         self.opened = inner.opened;
+        self.line = inner.line.saturating_add(1);
+        Ok(())
     }
 }

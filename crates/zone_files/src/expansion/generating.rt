@@ -1,10 +1,11 @@
 //! The lines that a `$GENERATE` stands for. The directive is BIND's.
-ghost use Rattle.std.specs.Prelude.{◌≡◌, Option, map, drop, IfOk, OnOk};
+ghost use Rattle.std.specs.Prelude.{◌≡◌, Option, length, map, drop, IfOk, OnOk};
 ghost use Rattle.zone_name.specs.Common.{Labels};
 ghost use Rattle.zone_rdata.specs.Item.{raw};
 ghost use Rattle.zone_words.specs.Inherited.{IsOneOrNone};
 ghost use Rattle.zone_generate.specs.Lines.{last_owner};
-ghost use Rattle.zone_files.specs.Expansion.{SpellsLast, after_lines, generate_fault, says_generate};
+ghost use Rattle.zone_files.specs.Expansion.{SpellsLast, after_lines, generate_fault, lines_if, says_generate, values_or_one};
+ghost use Rattle.zone_generate.specs.Entry.{generation_in};
 ghost use Rattle.zone_files.specs.Machine.Stepping.{GeneratesAs};
 
 use crate::expansion::holding::Holding;
@@ -54,8 +55,36 @@ fn last_stated(lines: &Generated, origin: &CasedName) -> Result<Option<CasedName
     }
 }
 
+/// How many lines the items after the word `$GENERATE` stand for: one for each value, and one where
+/// they have a fault.
+fn values_or_one(alloc: Global, items: &[Item]) -> Result<u64, AllocError>
+    ensures { IfOk result (λ lines. lines ≡ values_or_one (generation_in (map raw items.now))) }
+{
+    match Generated::of_items(alloc, items) {
+        Ok(lines) => Ok(lines.values_left()),
+        Err(GenerateFailing::Fault(_)) => Ok(1),
+        Err(GenerateFailing::OutOfMemory) => Err(AllocError),
+    }
+}
+
+/// How many lines a directive of another word than RFC 1035's stands for.
+///
+/// # Errors
+///
+/// `AllocError`.
+pub(crate) fn lines_of_directive(alloc: Global, items: &[Item]) -> Result<u64, AllocError>
+    ensures { IfOk result (λ lines. lines
+        ≡ lines_if (says_generate (map raw items.now)) (map raw items.now)) }
+{
+    if says_generate(items) {
+        values_or_one(alloc, after_first(items))
+    } else {
+        Ok(1)
+    }
+}
+
 impl Holding {
-    /// Takes what the lines of a `$GENERATE` leave: the owner of the last one.
+    /// Takes what the lines of a `$GENERATE` leave: their number, and the owner of the last one.
     ///
     /// # Errors
     ///
@@ -64,8 +93,9 @@ impl Holding {
         ensures { OnOk result ((named : Option Labels)
             × IsOneOrNone (SpellsLast self.old.origin
             (last_owner lines.now.templates lines.now.values)) named
-            × (self.new ≡ after_lines named self.old)) }
+            × (self.new ≡ after_lines named (length lines.now.values) self.old)) }
     {
+        self.go_past(lines.values_left());
         if let Some(name) = last_stated(lines, &self.origin)? {
             self.stated = Some(name);
         }

@@ -1,17 +1,19 @@
 //! What holds for the next entry of a file.
-ghost use Rattle.std.specs.Prelude.{◌≡◌, Option, map, bytes_eq};
+ghost use Rattle.std.specs.Prelude.{◌≡◌, Option, Some, drop, map, bytes_eq, option_map};
 ghost use Rattle.std.specs.List.{list_any};
 ghost use Rattle.zone_name.specs.Common.{Labels};
 ghost use Rattle.zone_rdata.specs.Item.{raw};
 ghost use Rattle.zone_words.specs.Inherited.{IsOneOrNone};
 ghost use Rattle.zone_words.specs.Origin.{NamesOrigin};
-ghost use Rattle.zone_files.specs.Expansion.{SpellsOwner, owned_by, under};
+ghost use Rattle.zone_files.specs.IncludeStack.{file_name};
+ghost use Rattle.zone_files.specs.Expansion.{SpellsOwner, after_count, is_next, left_out, owned_by, past, stating, under};
 
 use crate::expansion::opened_name::FileName;
 use crate::expansion::owners::{named_origin, named_owner};
 use std::marker::Model;
 use zone_name::CasedName;
 use zone_rdata::Item;
+use zone_text::line_feeds;
 
 /// What holds for the next entry of a file. Contracts see it as the definition has it.
 #[derive(Drop)]
@@ -26,6 +28,10 @@ pub(crate) struct Holding {
     pub(crate) open: Vec<FileName>,
     /// How many files were included so far.
     pub(crate) opened: u64,
+    /// The line of the expanded text that comes next, from 1.
+    pub(crate) line: u64,
+    /// The lines of the expanded text whose entries are taken out, in their order.
+    pub(crate) taken_out: Vec<u64>,
 }
 
 impl Model for Holding {
@@ -40,6 +46,8 @@ impl Model for Holding {
       directory = h.directory;
       open_files = h.open.items;
       opened = h.opened;
+      line = h.line;
+      taken_out = h.taken_out.items;
     } };
 }
 
@@ -64,6 +72,67 @@ impl Holding {
         if let Some(name) = named_owner(owner, &self.origin) {
             self.stated = Some(name.copy());
             self.owner = Some(name);
+        }
+    }
+
+    /// The expanded text states this owner last.
+    pub(crate) fn state(&mut self, owner: CasedName)
+        ensures { self.new ≡ stating (Some owner) self.old }
+    {
+        self.stated = Some(owner);
+    }
+
+    /// Goes past so many lines of the expanded text.
+    pub(crate) fn go_past(&mut self, lines: u64)
+        ensures { self.new ≡ after_count lines self.old }
+    {
+        self.line = self.line.saturating_add(lines);
+    }
+
+    /// Goes past the lines of an entry.
+    pub(crate) fn pass(&mut self, entry: &[u8])
+        ensures { self.new ≡ past entry.now self.old }
+    {
+        self.go_past(line_feeds(entry) as u64);
+    }
+
+    /// The first of the lines whose entries are taken out is none any more.
+    fn drop_first(&mut self)
+        ensures { self.new ≡ record self.old { taken_out = drop 1 self.old.taken_out } }
+    {
+        if !self.taken_out.is_empty() {
+            self.taken_out.remove(0);
+        }
+    }
+
+    /// Takes what an entry leaves that is taken out: the owner that it states.
+    pub(crate) fn leave_out(&mut self, named: Option<CasedName>, entry: &[u8])
+        ensures { self.new ≡ left_out named entry.now self.old }
+    {
+        if let Some(name) = named {
+            self.owner = Some(name);
+        }
+        self.pass(entry);
+        self.drop_first();
+    }
+
+    /// Whether the first of the lines whose entries are taken out is one of so many that come next.
+    pub(crate) fn is_next(&self, lines: u64) -> bool
+        ensures { result ≡ is_next self.now.taken_out self.now.line lines }
+    {
+        match self.taken_out.first() {
+            Some(first) => self.line <= *first && *first - self.line < lines,
+            None => false,
+        }
+    }
+
+    /// The name of the file.
+    pub(crate) fn file_name(&self) -> Option<&str>
+        ensures { option_map (λ name. name.now) result ≡ file_name self.now }
+    {
+        match self.open.last() {
+            Some(name) => Some(name.as_str()),
+            None => None,
         }
     }
 

@@ -4,11 +4,12 @@ ghost use Rattle.zone_name.specs.Spelling.{SpellsCased};
 ghost use Rattle.zone_rdata.specs.Item.{raw};
 ghost use Rattle.zone_words.specs.Inherited.{IsOneOrNone};
 ghost use Rattle.zone_words.specs.Origin.{NamesOrigin};
-ghost use Rattle.zone_files.specs.Expansion.{SpellsOwner};
+ghost use Rattle.zone_text.specs.Stated.{statement_in};
+ghost use Rattle.zone_files.specs.Expansion.{SpellsOwner, StatesOwner};
 
 use zone_name::CasedName;
 use zone_rdata::Item;
-use zone_text::split_bare;
+use zone_text::{Statement, split_bare};
 
 /// The name that the text spells under an origin.
 pub(crate) fn spelled(text: &[u8], above: &CasedName) -> Option<CasedName>
@@ -38,6 +39,16 @@ pub(crate) fn named_owner(owner: Item, origin: &CasedName) -> Option<CasedName>
     match owner {
         Item::Bare(text) => spelled(text, origin),
         Item::Quoted(_) => None,
+    }
+}
+
+/// The owner that an entry states, if that is a name.
+pub(crate) fn stated_owner(statement: Statement, origin: &CasedName) -> Option<CasedName>
+    ensures { StatesOwner origin.now (statement_in statement.entry) result }
+{
+    match statement {
+        Statement::Owned(owner, _) => named_owner(owner, origin),
+        Statement::Blank | Statement::Directive(_) | Statement::Unowned(_) => None,
     }
 }
 

@@ -1,11 +1,14 @@
 //! The zone of a main file and the files that it includes.
-ghost use Rattle.std.specs.Prelude.{◌≡◌, ◌≤◌, ℕ, List, Option, length, option_map, IfOk, OnOk};
+ghost use Rattle.std.specs.Prelude.{◌≡◌, ◌≤◌, ℕ, List, Option, length, option_map, IfErr, IfOk, OnOk};
 ghost use Rattle.zone_name.specs.Common.{Labels};
 ghost use Rattle.zone_print.specs.Canonical.{canon, text_limit};
 ghost use Rattle.zone_files.specs.ExpandedLoader.{FilesDenote};
 ghost use Rattle.zone_files.specs.Expansion.{Files, Holds, at_first};
+ghost use Rattle.zone_files.specs.FilesStopped.{HasEndedAlone, StopsLoading};
+ghost use Rattle.zone_files.specs.IncludeStack.{FedFiles, StandsForFiles};
 ghost use Rattle.zone_files.specs.Loading.Fed.{StandsForPresentation};
-ghost use Rattle.zone_files.specs.Machine.OpenReading.{AreZone, LoadsFiles, StandsForRead};
+ghost use Rattle.zone_files.specs.Machine.OpenReading.{AreZone, IsRefusedAs, LoadsFiles, StandsForRead, StopsLoads};
+ghost use Rattle.zone_files.specs.Machine.StepsLeft.{IsAligned};
 ghost use Rattle.zone_files.specs.Reading.{OpenedFile, ReadsFiles};
 
 use crate::files::files_reader::{FilesReader, ReadingStop, read_on};
@@ -42,6 +45,8 @@ pub fn load_files<S: IncludedFiles>(
         × FilesDenote (option_map (λ folder. folder.now) directory.entry) name.now origin.now
         octets tree loaded.0) }
     ensures short { IfOk result (λ loaded. length (canon loaded.0) ≤ text_limit) }
+    ensures stopped { IfErr result (StopsLoading S.opens S.File.state main
+        (option_map (λ folder. folder.now) directory.entry) name.now origin.now files.old files.new) }
 {
     let Ok(mut reader) = FilesReader::new(alloc, directory, name, origin, main) else {
         return Err(FilesStop::Input(Stop::Memory));
@@ -64,21 +69,26 @@ fn read_all<S: IncludedFiles>(
     files: &mut S,
     loader: &mut PresentationLoader,
 ) -> Result<(), ReadingStop>
-    ensures { OnOk result ((main : S.File) (first : Holds) (start : S) (origin : Labels)
+    requires { IsAligned reader.old }
+    ensures loads { OnOk result ((main : S.File) (first : Holds) (start : S) (origin : Labels)
         → LoadsFiles S.opens S.File.state main first start origin reader.old files.old loader.old
         → LoadsFiles S.opens S.File.state main first start origin reader.new files.new loader.new) }
+    ensures ended { OnOk result (HasEndedAlone reader.new.stack) }
+    ensures stops { IfErr result (λ stop. (main : S.File) (first : Holds) (start : S) (origin : Labels)
+        → LoadsFiles S.opens S.File.state main first start origin reader.old files.old loader.old
+        → StopsLoads S.opens S.File.state main first start origin reader.new files.new loader.new
+        stop) }
 {
-    'files: for _ in 0..u64::MAX {
+    'files: while !reader.has_ended() {
         match read_on(reader, files) {
-            Ok(true) => {}
-            Ok(false) => return Ok(()),
+            Ok(()) => {}
             Err(stop) => return Err(stop),
         }
         let Ok(()) = loader.feed(&reader.text) else {
             return Err(ReadingStop::Memory);
         };
     }
-    Err(ReadingStop::Unread)
+    Ok(())
 }
 
 /// The zone of files whose text has ended, of which this is the loader.
@@ -92,6 +102,10 @@ fn judged<R: OctetReader + Drop>(
         → StandsForPresentation origin loader text
         → AreZone R.state main opened directory name origin loaded.0) }
     ensures short { IfOk result (λ loaded. length (canon loaded.0) ≤ text_limit) }
+    ensures refused { IfErr result (λ stop. (first : Holds) (origin : Labels) (fed : FedFiles)
+        (text : List ℕ) → StandsForFiles reader.stack first fed text
+        → StandsForPresentation origin loader text
+        → IsRefusedAs reader.stack origin text stop) }
 {
     let is_whole = reader.has_read_all();
     let FilesReader { alloc, stack, .. } = reader;
@@ -109,7 +123,12 @@ fn judged<R: OctetReader + Drop>(
 }
 
 /// Why files give no zone of which one can't be opened or read.
-fn unread<R: OctetReader + Drop>(reader: FilesReader<R>, loader: PresentationLoader) -> FilesStop {
+fn unread<R: OctetReader + Drop>(reader: FilesReader<R>, loader: PresentationLoader) -> FilesStop
+    ensures { (first : Holds) (origin : Labels) (fed : FedFiles) (text : List ℕ)
+        → StandsForFiles reader.stack first fed text
+        → StandsForPresentation origin loader text
+        → IsRefusedAs reader.stack origin text result }
+{
     let FilesReader { alloc, stack, .. } = reader;
     let (loaded, stack) = ExpandedLoader::of_parts(alloc, stack, loader).load();
     match loaded {

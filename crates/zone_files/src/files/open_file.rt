@@ -1,6 +1,7 @@
 //! A file that is read in pieces.
 ghost use Rattle.std.specs.Prelude.{◌≡◌, ◌≤◌, ◌-◌, [], List, ℕ, drop, length, true, false, IfErr, OnOk};
 ghost use Rattle.zone_files.specs.Machine.OpenReading.{HasGiven, StopsFile};
+ghost use Rattle.zone_files.specs.Machine.StepsLeft.{room};
 
 use crate::files::piece::Piece;
 use zone_engine::OctetReader;
@@ -53,6 +54,7 @@ impl<R: OctetReader + Drop> OpenFile<R> {
         ensures reads { OnOk result ((reader : R) (taken : List ℕ)
             → HasGiven R.state reader self.old taken → HasGiven R.state reader self.new taken) }
         ensures some { OnOk result (self.new.piece ≡ [] → self.new.is_at_end ≡ true) }
+        ensures room { OnOk result (room self.new ≤ room self.old) }
         ensures stops { IfErr result (λ stop. (reader : R) (taken : List ℕ)
             → HasGiven R.state reader self.old taken
             → StopsFile R.state reader self.new stop) }

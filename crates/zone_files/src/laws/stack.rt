@@ -1,7 +1,7 @@
 //! Laws of files that are expanded while they are read.
 ghost use Rattle.std.specs.Prelude.{◌≡◌, [], ℕ, List, Option};
 ghost use Rattle.zone_name.specs.Common.{Labels};
-ghost use Rattle.zone_files.specs.Expansion.{IsExpanded, at_first, breaks_off, ends, stops, stops_at};
+ghost use Rattle.zone_files.specs.Expansion.{IsExpandedWithout, breaks_off, ends, first_without, stops, stops_at};
 ghost use Rattle.zone_files.specs.IncludeStack.{FedFiles, StackState, StandsForFiles, main_file};
 ghost use Rattle.zone_files.specs.declared.expansion.progress.FileStatus.TheVariants.{BrokenOff, Ended, Faulty, FaultyAt};
 ghost use Rattle.zone_files.specs.declared.fault.ExpansionFault.{ExpansionFault};
@@ -9,28 +9,32 @@ ghost use Rattle.zone_files.specs.declared.fault.ExpansionFault.{ExpansionFault}
 /// What a stack gave for a main file and the files that it includes is the expanded text, once the
 /// main file has ended, a text broke, an entry has a fault, or a value has no line.
 pub fn an_ended_stack_gives_the_expanded_text()
-    ensures ended { (directory : Option (List ℕ)) (name : List ℕ) (origin : Labels)
+    ensures ended { (lines : List ℕ) (directory : Option (List ℕ)) (name : List ℕ)
+        (origin : Labels)
         (s : StackState) (fed : FedFiles) (text : List ℕ)
-        → StandsForFiles s (at_first directory name origin) fed text
+        → StandsForFiles s (first_without lines directory name origin) fed text
         → s.innermost.status ≡ Ended → s.outer ≡ []
-        → IsExpanded directory name origin (main_file fed).octets (main_file fed).files text
+        → IsExpandedWithout lines directory name origin (main_file fed).octets (main_file fed).files text
         (ends s.innermost.holds) }
-    ensures broken { (directory : Option (List ℕ)) (name : List ℕ) (origin : Labels)
+    ensures broken { (lines : List ℕ) (directory : Option (List ℕ)) (name : List ℕ)
+        (origin : Labels)
         (s : StackState) (fed : FedFiles) (text : List ℕ)
-        → StandsForFiles s (at_first directory name origin) fed text
+        → StandsForFiles s (first_without lines directory name origin) fed text
         → s.innermost.status ≡ BrokenOff
-        → IsExpanded directory name origin (main_file fed).octets (main_file fed).files text
+        → IsExpandedWithout lines directory name origin (main_file fed).octets (main_file fed).files text
         breaks_off }
-    ensures faulty { (directory : Option (List ℕ)) (name : List ℕ) (origin : Labels)
+    ensures faulty { (lines : List ℕ) (directory : Option (List ℕ)) (name : List ℕ)
+        (origin : Labels)
         (s : StackState) (fed : FedFiles) (text : List ℕ) (fault : ExpansionFault)
-        → StandsForFiles s (at_first directory name origin) fed text
+        → StandsForFiles s (first_without lines directory name origin) fed text
         → s.innermost.status ≡ Faulty fault
-        → IsExpanded directory name origin (main_file fed).octets (main_file fed).files text
+        → IsExpandedWithout lines directory name origin (main_file fed).octets (main_file fed).files text
         (stops fault) }
-    ensures lacking { (directory : Option (List ℕ)) (name : List ℕ) (origin : Labels)
+    ensures lacking { (lines : List ℕ) (directory : Option (List ℕ)) (name : List ℕ)
+        (origin : Labels)
         (s : StackState) (fed : FedFiles) (text : List ℕ) (value : ℕ)
-        → StandsForFiles s (at_first directory name origin) fed text
+        → StandsForFiles s (first_without lines directory name origin) fed text
         → s.innermost.status ≡ FaultyAt value
-        → IsExpanded directory name origin (main_file fed).octets (main_file fed).files text
+        → IsExpandedWithout lines directory name origin (main_file fed).octets (main_file fed).files text
         (stops_at value) }
 {}

@@ -1,5 +1,5 @@
 //! The zone of a master file in presentation format that is fed in pieces.
-ghost use Rattle.std.specs.Prelude.{◌≡◌, ◌+◌, ◌-◌, ◌^◌, ◌≤◌, ◌<◌, ◌++◌, ℕ, true, false, [], List, None, Err, length, min, option_map, IfErr, IfOk, OnErr, OnOk};
+ghost use Rattle.std.specs.Prelude.{◌≡◌, ◌+◌, ◌-◌, ◌^◌, ◌≤◌, ◌<◌, ◌++◌, ℕ, true, false, [], List, None, Err, is_some, length, min, option_map, IfErr, IfOk, OnErr, OnOk};
 ghost use Rattle.zone_name.specs.Common.{Labels};
 ghost use Rattle.zone_rdata.specs.declared.fault.Stop.TheVariants.{Memory};
 ghost use Rattle.zone_print.specs.Canonical.{canon, text_limit};
@@ -146,6 +146,13 @@ impl PresentationLoader {
             Ok(zone) => Ok(zone),
             Err(stop) => Err(PresentationRefusal::of_first(stop, rewriter.refusals().first)),
         }
+    }
+
+    /// Whether the octets so far refuse the file, but for its length, whatever follows them.
+    pub fn is_refused(&self) -> bool
+        ensures { result ≡ is_some self.now.loader.refusal }
+    {
+        self.loader.is_refused()
     }
 
     /// The number of octets of all pieces, at most `u64::MAX`.

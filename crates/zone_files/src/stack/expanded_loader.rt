@@ -1,14 +1,15 @@
 //! The zone of a master file and those that it includes, which are fed in pieces.
-ghost use Rattle.std.specs.Prelude.{◌≡◌, ◌++◌, ◌-◌, ◌≤◌, ◌⊎◌, [], List, ℕ, Option, true, false, length, IfErr, IfOk, OnErr, OnOk, option_map};
+ghost use Rattle.std.specs.Prelude.{◌≡◌, ◌++◌, ◌-◌, ◌≤◌, ◌⊎◌, [], List, ℕ, Option, true, false, is_some, length, IfErr, IfOk, OnErr, OnOk, option_map};
 ghost use Rattle.zone_name.specs.Common.{Labels};
 ghost use Rattle.zone_rdata.specs.declared.fault.Fault.{Fault};
 ghost use Rattle.zone_rdata.specs.declared.fault.Place.TheVariants.{Line};
 ghost use Rattle.zone_print.specs.Canonical.{canon, text_limit};
-ghost use Rattle.zone_files.specs.Expansion.{Holds, at_first};
-ghost use Rattle.zone_files.specs.ExpandedLoader.{FilesDenote, LoadsEnd, LoadsInnermost, RefusesFor, StandsForExpanded, stopped};
+ghost use Rattle.zone_files.specs.Expansion.{Holds, at_first, first_without};
+ghost use Rattle.zone_files.specs.ExpandedLoader.{FilesDenote, FilesDenoteWithout, LoadsEnd, LoadsInnermost, RefusesFor, StandsForExpanded, judged, stopped};
 ghost use Rattle.zone_files.specs.FileExpander.{IsOver};
 ghost use Rattle.zone_files.specs.IncludeStack.{FedFiles, StandsForFiles, fed_inner, main_alone, main_file};
 ghost use Rattle.zone_files.specs.Loading.Fed.{StandsForPresentation};
+ghost use Rattle.zone_files.specs.Presentation.{PresentationDenotes};
 ghost use Rattle.zone_files.specs.Machine.ExpandedLoading.{DenotesLoaded, RefusesFaulty, RefusesUnread, RefusesWhole};
 
 use crate::expansion::FileStatus;
@@ -69,8 +70,28 @@ impl ExpandedLoader {
             (at_first (option_map (λ folder. folder.now) directory.entry) name.now origin.now)
             main_alone) }
     {
+        ExpandedLoader::without(alloc, &[], directory, name, origin)
+    }
+
+    /// A loader of a main file, of which the entries of these lines of the expanded text are taken out,
+    /// as by [`FileExpander::without`](crate::FileExpander::without).
+    ///
+    /// # Errors
+    ///
+    /// `AllocError`.
+    pub fn without(
+        alloc: Global,
+        lines: &[u64],
+        directory: Option<&str>,
+        name: &str,
+        origin: &CasedName,
+    ) -> Result<ExpandedLoader, AllocError>
+        ensures stands { IfOk result (λ made. StandsForExpanded made origin.now
+            (first_without lines.now (option_map (λ folder. folder.now) directory.entry) name.now
+            origin.now) main_alone) }
+    {
         Ok(ExpandedLoader {
-            stack: IncludeStack::new(alloc, directory, name, origin)?,
+            stack: IncludeStack::without(alloc, lines, directory, name, origin)?,
             loader: PresentationLoader::new(alloc, origin),
             text: Vec::new(alloc),
         })
@@ -173,6 +194,13 @@ impl ExpandedLoader {
         self.loader.fed()
     }
 
+    /// Whether the expanded text so far refuses the files, but for its length, whatever follows it.
+    pub fn is_refused(&self) -> bool
+        ensures { result ≡ is_some self.now.loader.loader.refusal }
+    {
+        self.loader.is_refused()
+    }
+
     /// The zone that the files denote, and the places of the lines of the expanded text. Files that
     /// weren't read to their end are refused.
     pub fn load(self) -> (Result<Zone, ExpandedRefusal>, IncludeStack)
@@ -180,7 +208,15 @@ impl ExpandedLoader {
             (origin : Labels) (fed : FedFiles)
             → StandsForExpanded self origin (at_first directory name origin) fed
             → FilesDenote directory name origin (main_file fed).octets (main_file fed).files z) }
+        ensures without { IfOk result.0 (λ z. (lines : List ℕ) (directory : Option (List ℕ))
+            (name : List ℕ) (origin : Labels) (fed : FedFiles)
+            → StandsForExpanded self origin (first_without lines directory name origin) fed
+            → FilesDenoteWithout lines directory name origin (main_file fed).octets
+            (main_file fed).files z) }
         ensures short { IfOk result.0 (λ z. length (canon z) ≤ text_limit) }
+        ensures accepted { IfOk result.0 (λ z. (origin : Labels) (text : List ℕ)
+            → StandsForPresentation origin self.loader text
+            → PresentationDenotes origin (judged self.stack text) z) }
         ensures refused { IfErr result.0 (λ refusal. (origin : Labels) (first : Holds)
             (fed : FedFiles) (text : List ℕ) → StandsForFiles self.stack first fed text
             → StandsForPresentation origin self.loader text
@@ -194,12 +230,16 @@ impl ExpandedLoader {
 
 /// The zone that the files denote, of whose expanded text this is the loader.
 fn loaded(stack: &IncludeStack, loader: PresentationLoader) -> Result<Zone, ExpandedRefusal>
-    ensures zone { IfOk result (λ z. (directory : Option (List ℕ)) (name : List ℕ)
-        (origin : Labels) (fed : FedFiles) (text : List ℕ)
-        → StandsForFiles stack.now (at_first directory name origin) fed text
+    ensures zone { IfOk result (λ z. (lines : List ℕ) (directory : Option (List ℕ))
+        (name : List ℕ) (origin : Labels) (fed : FedFiles) (text : List ℕ)
+        → StandsForFiles stack.now (first_without lines directory name origin) fed text
         → StandsForPresentation origin loader text
-        → FilesDenote directory name origin (main_file fed).octets (main_file fed).files z) }
+        → FilesDenoteWithout lines directory name origin (main_file fed).octets
+        (main_file fed).files z) }
     ensures short { IfOk result (λ z. length (canon z) ≤ text_limit) }
+    ensures accepted { IfOk result (λ z. (origin : Labels) (text : List ℕ)
+        → StandsForPresentation origin loader text
+        → PresentationDenotes origin (judged stack.now text) z) }
     ensures refused { IfErr result (λ refusal. (origin : Labels) (text : List ℕ)
         → StandsForPresentation origin loader text
         → RefusesFor refusal stack.now origin text) }

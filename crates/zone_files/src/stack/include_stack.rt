@@ -1,10 +1,11 @@
 //! The files that are open while a main file is expanded.
-ghost use Rattle.std.specs.Prelude.{◌≡◌, ◌<◌, ◌≤◌, ◌+◌, ◌⊎◌, [], None, true, false, length, option_map, IfOk, OnErr, OnOk};
-ghost use Rattle.zone_files.specs.Expansion.{at_first};
+ghost use Rattle.std.specs.Prelude.{◌≡◌, ◌<◌, ◌≤◌, ◌+◌, ◌⊎◌, [], None, true, false, length, option_map, IfOk, IsNone, OnErr, OnOk};
+ghost use Rattle.zone_files.specs.Expansion.{at_first, first_without};
 ghost use Rattle.zone_files.specs.ExpandedLoader.{stopped};
-ghost use Rattle.zone_files.specs.FileExpander.{HasFewerLines, IsOver};
-ghost use Rattle.zone_files.specs.IncludeStack.{BeginsInner, EndsInnermost, FeedsInnermost, MakesLines, StandsForFiles, fed_ended, main_alone, stop_line, wanted_name};
-ghost use Rattle.zone_files.specs.Machine.Stacking.{EndsOutward, GivesOn, StopsText, TakesPart};
+ghost use Rattle.zone_files.specs.FileExpander.{HasFewerLines, IsOver, lines_left};
+ghost use Rattle.zone_files.specs.IncludeStack.{BeginsInner, EndsInnermost, FeedsInnermost, MakesLines, StandsForFiles, fed_ended, file_name, main_alone, stop_line, wanted_name};
+ghost use Rattle.zone_files.specs.Turns.{EndsFile, GoesAfterLines, TakesSome};
+ghost use Rattle.zone_files.specs.Machine.Stacking.{EndsOutward, GivesOn, IsSameOrShorter, StopsText, TakesPart};
 ghost use Rattle.zone_files.specs.declared.expansion.progress.FileStatus.TheVariants.{Ended, Failed, Generating, Going, Including};
 
 use crate::expansion::{FileExpander, FileStatus};
@@ -75,9 +76,31 @@ impl IncludeStack {
         ensures going { IfOk result (λ made. made.innermost.status ≡ Going) }
         ensures alone { IfOk result (λ made. made.outer ≡ []) }
     {
+        IncludeStack::without(alloc, &[], directory, name, origin)
+    }
+
+    /// A main file alone, of which the entries of these lines of the expanded text are taken out, as by
+    /// [`FileExpander::without`].
+    ///
+    /// # Errors
+    ///
+    /// `AllocError`.
+    pub fn without(
+        alloc: Global,
+        lines: &[u64],
+        directory: Option<&str>,
+        name: &str,
+        origin: &CasedName,
+    ) -> Result<IncludeStack, AllocError>
+        ensures stands { IfOk result (λ made. StandsForFiles made (first_without lines.now
+            (option_map (λ folder. folder.now) directory.entry) name.now origin.now)
+            main_alone []) }
+        ensures going { IfOk result (λ made. made.innermost.status ≡ Going) }
+        ensures alone { IfOk result (λ made. made.outer ≡ []) }
+    {
         Ok(IncludeStack {
             alloc,
-            innermost: FileExpander::new(alloc, directory, name, origin)?,
+            innermost: FileExpander::without(alloc, lines, directory, name, origin)?,
             outer: Vec::new(alloc),
             lines: LineSources::new(alloc, name)?,
         })
@@ -98,6 +121,8 @@ impl IncludeStack {
         ensures feeds { IfOk result (λ left. FeedsInnermost self.old piece.now left.now self.new
             out.old.items out.new.items) }
         ensures all { IfOk result (λ left. (left.now ≡ []) ⊎ IsOver self.new.innermost.status) }
+        ensures some { IfOk result
+            (λ left. TakesSome self.old.innermost.status piece.now left.now) }
         ensures failed { OnErr result (self.new.innermost.status ≡ Failed) }
     {
         match self.feed_innermost(piece, out) {
@@ -117,6 +142,8 @@ impl IncludeStack {
     pub fn finish(&mut self, out: &mut Vec<u8>) -> Result<(), AllocError>
         ensures ends { OnOk result
             (EndsInnermost self.old self.new out.old.items out.new.items) }
+        ensures last { OnOk result (EndsFile self.old.innermost self.new.innermost
+            ⊎ (length self.new.outer < length self.old.outer)) }
         ensures failed { OnErr result (self.new.innermost.status ≡ Failed) }
     {
         match self.finish_innermost(out) {
@@ -141,6 +168,9 @@ impl IncludeStack {
     /// `AllocError`. The stack has failed then, and `out` may have got some of the lines.
     pub fn generate(&mut self, out: &mut Vec<u8>) -> Result<(), AllocError>
         ensures makes { OnOk result (MakesLines self.old self.new out.old.items out.new.items) }
+        ensures after { OnOk result (self.old.innermost.status ≡ Generating
+            → GoesAfterLines self.old.innermost self.new.innermost
+            ⊎ (length self.new.outer < length self.old.outer)) }
         ensures failed { OnErr result (self.new.innermost.status ≡ Failed) }
     {
         match self.generate_innermost(out) {
@@ -192,9 +222,26 @@ impl IncludeStack {
         self.outer.len()
     }
 
-    /// The name of the innermost file, which is read.
-    pub fn innermost_name(&self) -> Option<&str> {
-        self.lines.innermost_name()
+    /// The name under which the innermost file was opened, which is read.
+    pub fn innermost_name(&self) -> Option<&str>
+        ensures { option_map (λ name. name.now) result ≡ file_name self.now.innermost.holds }
+    {
+        self.innermost.file_name()
+    }
+
+    /// How many lines come first, if the templates say something for each value: none where no
+    /// `$GENERATE` was met.
+    pub(crate) fn lines_left(&self) -> u64
+        ensures { result ≡ lines_left self.now.innermost.generated }
+    {
+        self.innermost.lines_left()
+    }
+
+    /// How many files were included so far.
+    pub(crate) fn included_files(&self) -> u64
+        ensures { result ≡ self.now.innermost.holds.opened }
+    {
+        self.innermost.included_files()
     }
 
     /// The line of the expanded text that comes next, from 1.
@@ -204,8 +251,14 @@ impl IncludeStack {
         self.lines.next_line()
     }
 
-    /// Where a line of the expanded text comes from. `None`: it is no line of the text so far.
-    pub fn place_of(&self, line: u64) -> Option<EntryPlace<'_>> {
+    /// Where a line of the expanded text comes from. `None`: it is no line of the text so far, which may
+    /// end inside the line that comes next.
+    pub fn place_of(&self, line: u64) -> Option<EntryPlace<'_>>
+        ensures { self.now.next_line < line → IsNone result }
+    {
+        if line > self.lines.next_line() {
+            return None;
+        }
         self.lines.place_of(line)
     }
 
@@ -275,6 +328,8 @@ impl IncludeStack {
         ensures feeds { IfOk result (λ left. FeedsInnermost self.old piece.now left.now self.new
             out.old.items out.new.items) }
         ensures all { IfOk result (λ left. (left.now ≡ []) ⊎ IsOver self.new.innermost.status) }
+        ensures some { IfOk result
+            (λ left. TakesSome self.old.innermost.status piece.now left.now) }
     {
         if self.is_faulty() {
             return Ok(piece);
@@ -289,6 +344,8 @@ impl IncludeStack {
         ensures takes { IfOk result (λ left. TakesPart self.old piece.now left.now self.new
             out.old.items out.new.items) }
         ensures all { IfOk result (λ left. (left.now ≡ []) ⊎ IsOver self.new.innermost.status) }
+        ensures some { IfOk result
+            (λ left. TakesSome self.old.innermost.status piece.now left.now) }
     {
         let before = out.as_slice().len();
         let left = self.innermost.feed(piece, out)?;
@@ -301,6 +358,8 @@ impl IncludeStack {
     fn finish_innermost(&mut self, out: &mut Vec<u8>) -> Result<(), AllocError>
         ensures ends { OnOk result
             (EndsInnermost self.old self.new out.old.items out.new.items) }
+        ensures last { OnOk result (EndsFile self.old.innermost self.new.innermost
+            ⊎ (length self.new.outer < length self.old.outer)) }
     {
         if self.is_faulty() {
             return Ok(());
@@ -314,6 +373,9 @@ impl IncludeStack {
     /// Makes the next lines, where they come first, and ends the files that end with them.
     fn generate_innermost(&mut self, out: &mut Vec<u8>) -> Result<(), AllocError>
         ensures makes { OnOk result (MakesLines self.old self.new out.old.items out.new.items) }
+        ensures after { OnOk result (self.old.innermost.status ≡ Generating
+            → GoesAfterLines self.old.innermost self.new.innermost
+            ⊎ (length self.new.outer < length self.old.outer)) }
     {
         if !self.is_generating() {
             return Ok(());
@@ -339,6 +401,8 @@ impl IncludeStack {
         ensures outer { OnOk result (self.new.outer ≡ self.old.outer) }
         ensures fewer { OnOk result (self.old.innermost.status ≡ Generating
             → HasFewerLines self.old.innermost self.new.innermost) }
+        ensures after { OnOk result (self.old.innermost.status ≡ Generating
+            → GoesAfterLines self.old.innermost self.new.innermost) }
     {
         self.lines.begin_lines(self.innermost.next_value())?;
         let before = out.as_slice().len();
@@ -353,6 +417,7 @@ impl IncludeStack {
         ensures ends { OnOk result
             (EndsOutward self.old self.new out.old.items out.new.items) }
         ensures main { OnOk result (self.new.innermost.status ≡ Ended → self.new.outer ≡ []) }
+        ensures same { OnOk result (IsSameOrShorter self.old self.new) }
     {
         'ended: while self.has_ended_inner() {
             self.go_on(out)?;
@@ -366,6 +431,7 @@ impl IncludeStack {
             (GivesOn self.old (λ fed. fed) self.new out.old.items out.new.items) }
         ensures outer { OnOk result (self.new.outer ≡ self.old.outer) }
         ensures over { OnOk result (IsOver self.new.innermost.status) }
+        ensures last { OnOk result (EndsFile self.old.innermost self.new.innermost) }
     {
         let was_met = self.is_wanting();
         let before = out.as_slice().len();

@@ -167,14 +167,6 @@ impl LineSources {
         self.innermost.origin_line
     }
 
-    /// The name of the innermost file.
-    pub(crate) fn innermost_name(&self) -> Option<&str> {
-        match self.names.get(self.innermost.file) {
-            Some(name) => Some(name.as_str()),
-            None => None,
-        }
-    }
-
     /// The last line of the expanded text so far, or 0.
     pub(crate) fn last_line(&self) -> u64 {
         self.places.next_line().saturating_sub(1)

@@ -20,7 +20,13 @@ fn push_changes(
 ) -> Result<(), Fail> {
     let (first, second) = parted(asked, "--\n")?;
     let (zone, other) = (zone_of(alloc, first)?, zone_of(alloc, second)?);
-    write_difference(alloc, &zone, &other, case, out).map_err(|_| Fail::from("a difference"))
+    let differ = write_difference(alloc, &zone, &other, case, out).map_err(|_| Fail::from(
+        "a difference",
+    ))?;
+    if differ == out.is_empty() {
+        return Err(Fail::from("whether they differ"));
+    }
+    Ok(())
 }
 
 /// The changes from the first of two zones to the second.

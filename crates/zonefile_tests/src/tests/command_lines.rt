@@ -5,6 +5,7 @@ use test_support::{
     Question, check_lines, check_octets, check_same, had_memory, push_text, push_words, roomy,
     words_of,
 };
+use zone_difference::NameCase;
 use zonefile_command::{Action, NoOrder, Notation, Order, order_after_name, order_of, refuse};
 
 /// What a command line gives: an order, or the status and the first line of what is printed.
@@ -52,6 +53,17 @@ fn push_order(out: &mut Vec<u8>, order: &Order) -> Result<(), Fail> {
             push_text(out, " and ")?;
             push_text(out, second.file.as_str())
         }
+        Action::Difference(first, second, form) => {
+            if let NameCase::Exact = form.name_case {
+                push_text(out, "exactly: ")?;
+            }
+            if let Notation::Generic = form.notation {
+                push_text(out, "in the generic form: ")?;
+            }
+            push_text(out, first.file.as_str())?;
+            push_text(out, " to ")?;
+            push_text(out, second.file.as_str())
+        }
         Action::Expand(origin, file) => {
             out.extend_from_slice(origin.wire())?;
             push_text(out, file.as_str())
@@ -77,6 +89,13 @@ explain --words x f => told 2 error: unexpected argument '--words' found
 normalise --directory=d x f => d: f
 compare x. a transfer b => a and b
 compare x. a y. b --directory d => d: a and b
+diff x. a transfer b => a to b
+diff --exact x. a y b --directory d => d: exactly: a to b
+diff x a y b --generic => in the generic form: a to b
+diff x a y b --generic --exact => exactly: in the generic form: a to b
+diff x a y => told 2 error: the following required arguments were not provided:
+diff x a y b --words => told 2 error: unexpected argument '--words' found
+diff a. f b..c g => told 2 F46 BadOrigin: an origin is an absolute name or the word transfer
 expand x f => \x01x\0f
 expand transfer f => told 2 F46 BadOrigin: an origin is an absolute name or the word transfer
 explain @ f => told 2 F46 BadOrigin: an origin is an absolute name or the word transfer
@@ -88,6 +107,7 @@ words x. f => told 2 error: unrecognized subcommand 'words'
  => told 2 Reads master files as operators keep them: with $INCLUDE, $GENERATE and 72 types
 --help => shown 0 Reads master files as operators keep them: with $INCLUDE, $GENERATE and 72 types
 explain --help => shown 0 Reports how many records the zone has, or why and where it is refused
+diff --help => shown 0 Writes the records by which two zones differ: - of the first, + of the second
 help expand => shown 0 Writes one master file of the file and those that it includes, each $GENERATE in its place
 --version => shown 0 zonefile 0.1.0, canonical text 1
 ";

@@ -10,7 +10,7 @@ use std::alloc::Global;
 use std::test::Fail;
 use test_support::{
     Narrow, Question, Run, check_octets, check_same, check_table, had_memory, parted, push_run,
-    push_words, roomy, words_of,
+    roomy, words_of,
 };
 use zonefile_command::{order_of, refuse, run};
 
@@ -265,6 +265,86 @@ compare example. a.zone example. b.zone
 => 1
 different at line 1
 --
+== changes_in_canonical_order
+diff example. a.zone example. b.zone
+@@ a.zone whole
+@ 60 SOA n h 1 2 3 4 5
+$INCLUDE c.db
+t TXT a
+@@ b.zone whole
+@ 60 SOA n h 2 2 3 4 5
+b A 192.0.2.2
+c CAA 0 issue \"cb\"
+t 61 TXT a
+@@ c.db whole
+b A 192.0.2.1
+c CAA 0 issue \"ca\"
+=> 1
+- example. 60 IN SOA n.example. h.example. 1 2 3 4 5
++ example. 60 IN SOA n.example. h.example. 2 2 3 4 5
+- b.example. 60 IN A 192.0.2.1
++ b.example. 60 IN A 192.0.2.2
+- c.example. 60 IN CAA 0 issue \"ca\"
++ c.example. 60 IN CAA 0 issue \"cb\"
+- t.example. 60 IN TXT \"a\"
++ t.example. 61 IN TXT \"a\"
+--
+== changes_in_the_generic_form
+diff --generic example. a.zone example. b.zone
+@@ a.zone whole
+@ 60 SOA n h 1 2 3 4 5
+c CAA 0 issue \"ca\"
+@@ b.zone whole
+@ 60 SOA n h 1 2 3 4 5
+c CAA 0 issue \"cb\"
+=> 1
+- c.example. 60 IN TYPE257 \\# 9 000569737375656361
++ c.example. 60 IN TYPE257 \\# 9 000569737375656362
+--
+== letters_of_names_in_data_are_no_difference
+diff example. a.zone example. b.zone
+@@ a.zone whole
+@ 60 SOA n h 1 2 3 4 5
+d DNAME New.Example.
+@@ b.zone whole
+@ 60 SOA n h 1 2 3 4 5
+d DNAME new.example.
+=> 0
+--
+== letters_of_names_in_data_are_an_exact_difference
+diff --exact example. a.zone example. b.zone
+@@ a.zone whole
+@ 60 SOA n h 1 2 3 4 5
+d DNAME New.Example.
+@@ b.zone whole
+@ 60 SOA n h 1 2 3 4 5
+d DNAME new.example.
+=> 1
+- d.example. 60 IN DNAME New.Example.
++ d.example. 60 IN DNAME new.example.
+--
+== no_exact_difference_in_the_generic_form
+diff --exact --generic example. a.zone example. a.zone
+@@ a.zone whole
+@ 60 SOA n h 1 2 3 4 5
+=> 0
+--
+== first_zone_of_a_difference_is_refused
+diff example. a.zone example. b.zone
+@@ a.zone whole
+c A 192.0.2.1
+@@ b.zone whole
+d A 192.0.2.1
+=> 3
+--
+first: F20 NoTtl at a.zone:1: the record has no TTL
+== second_zone_of_a_difference_can_not_be_read
+diff example. a.zone example. b.zone
+@@ a.zone whole
+@ 60 SOA n h 1 2 3 4 5
+=> 4
+--
+b.zone: can't be read
 == second_input_is_refused
 compare example. a.zone example. b.zone
 @@ a.zone whole
@@ -281,19 +361,30 @@ fn files_are_read(rt: HostRuntime) -> Result<(), Fail> {
     check_table::<Running>(rt.alloc(), FILES)
 }
 
-const ZONE: &str =
-    "@@ a.zone whole\n@ 60 SOA n h 1 2 3 4 5\n$INCLUDE b.db\n@@ b.db whole\nb A 192.0.2.1\n";
+const ZONE: &str = "\
+@@ a.zone whole
+@ 60 SOA n h 1 2 3 4 5
+$INCLUDE b.db
+@@ b.db whole
+b A 192.0.2.1
+@@ c.zone whole
+@ 60 SOA n h 1 2 3 4 5
+";
 
-/// A writer that fails in the middle of the text, of the expanded text and of a line.
+/// A writer that fails in the middle of the text, of the expanded text, of a line and of a difference.
 #[test]
 fn a_failing_writer_is_reported(rt: HostRuntime) -> Result<(), Fail> {
     let alloc = rt.alloc();
-    for command in ["normalise", "normalise --words", "expand", "explain"] {
+    for line in [
+        "normalise example. a.zone",
+        "normalise --words example. a.zone",
+        "expand example. a.zone",
+        "explain example. a.zone",
+        "diff example. a.zone example. c.zone",
+        "diff --generic example. a.zone example. c.zone",
+    ] {
         let mut writer = Narrow::new(alloc, 3, 10, true)?;
         let mut told = roomy(alloc)?;
-        let mut line = roomy(alloc)?;
-        push_words(alloc, &mut line, format_args!("{command} example. a.zone"))?;
-        let line = str::from_utf8(&line).map_err(|_| Fail::from("no text"))?;
         let mut folder = Folder {
             files: ZONE,
             each: usize::MAX,

@@ -20,7 +20,7 @@ returns-in-Err-explain-clause-ran g c =
 
 pub returns-in-Ok-compare-clause-ran : goal.returns-in-Ok-compare-clause-ran
 returns-in-Ok-compare-clause-ran g c =
-    rw c.in-Compare.is (compares c.in-Compare.one c.in-Compare.other _ _ c.with_origin-in-Compare.ensures c.with_origin-in-Compare-2.ensures _ _ c.in-Ok-compare.verdict _ c.in-Ok-compare.ensures.compared c.in-Ok-compare.ensures.read c.tell_verdict.ensures)
+    rw c.in-Compare.is (compares c.in-Compare.one c.in-Compare.other _ _ c.with_origin-in-Compare.ensures c.with_origin-in-Compare-2.ensures _ _ c.in-Ok-compare.verdict _ c.in-Ok-compare.ensures.compared c.in-Ok-compare.ensures.read c.answer_verdict.ensures)
 
 pub returns-in-Err-compare-clause-ran : goal.returns-in-Err-compare-clause-ran
 returns-in-Err-compare-clause-ran g c =

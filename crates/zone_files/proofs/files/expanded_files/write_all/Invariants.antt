@@ -1,10 +1,17 @@
-use Rattle.std.specs.Prelude.{ℕ, List, Option}
 use Rattle.zone_files.specs.Expansion.{Holds}
 use Rattle.zone_files.specs.Machine.OpenReading.{WritesFiles}
+use Rattle.zone_files.specs.Machine.StepsLeft.{IsAligned, steps_left}
 use Rattle.zone_files.proofs.files.expanded_files.write_all.Given as goal
 
--- whatever was written before, the text since then was
+-- the text since then was written
 abbrev pub invariant-files : goal.invariant-files
-invariant-files g l = (main : _) (first : Holds) (start : _) (before : Option (List ℕ))
-    → WritesFiles g.S.IncludedFiles.opens g.S.File.OctetReader.state main first start before l.initial.reader l.initial.files (g.W.OctetWriter.state l.initial.output).octets
-    → WritesFiles g.S.IncludedFiles.opens g.S.File.OctetReader.state main first start before l.reader l.files (g.W.OctetWriter.state l.output).octets
+invariant-files g l = record {
+  aligned : IsAligned l.reader;
+  written : (main : _) (first : Holds) (start : _)
+      → WritesFiles g.S.IncludedFiles.opens g.S.File.OctetReader.state main first start (g.W.OctetWriter.state l.initial.output) l.initial.reader l.initial.files (g.W.OctetWriter.state l.initial.output)
+      → WritesFiles g.S.IncludedFiles.opens g.S.File.OctetReader.state main first start (g.W.OctetWriter.state l.initial.output) l.reader l.files (g.W.OctetWriter.state l.output);
+}
+
+-- the steps that may be left
+abbrev pub decreases-files : goal.decreases-files
+decreases-files g l = steps_left l.reader

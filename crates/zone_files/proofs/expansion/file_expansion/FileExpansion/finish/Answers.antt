@@ -4,6 +4,7 @@ use Rattle.zone_text.proofs.Entries.Begun.{none_left, some_left}
 use Rattle.zone_text.specs.OpenEntry.{EndIs}
 use Rattle.zone_files.specs.declared.expansion.progress.FileStatus.TheVariants.{BrokenOff, Ended}
 use Rattle.zone_files.proofs.Expansions.Following.{end_follows, end_over, ends_broken, ends_none}
+use Rattle.zone_files.proofs.Expansions.Turning.{end_last}
 use Rattle.zone_files.proofs.expansion.file_expansion.FileExpansion.finish.Goals as goal
 
 pub returns-then-is_empty-clause-follows : goal.returns-then-is_empty-clause-follows
@@ -22,3 +23,7 @@ returns-in-None-clause-ended c =
 pub returns-in_ok-break_off-in-Some-clause-follows : goal.returns-in_ok-break_off-in-Some-clause-follows
 returns-in_ok-break_off-in-Some-clause-follows c =
     ends_broken c.args.self.now (record c.break_off.new.self { progress = record c.break_off.new.self.progress { status = BrokenOff } }) (c.is_going.ensures.yes c.if-not-is_going.false) c.args.out.now.items c.break_off.new.out.items _ (subst (EndIs c.args.self.now.unfinished.octets) c.in-Some.is (c.end_fault.ensures.open c.requires.is.state)) refl c.in_ok-break_off-in-Some.ensures.pushed
+
+pub returns-in-None-clause-last : goal.returns-in-None-clause-last
+returns-in-None-clause-last c =
+    on_ok_weaker c.end_last.result (end_last c.args.self.now c.end_last.new.self c.end_fault.result c.in-None.is (c.end_fault.ensures.open c.requires.is.state) c.args.out.now.items c.end_last.new.out.items) c.end_last.ensures.entered

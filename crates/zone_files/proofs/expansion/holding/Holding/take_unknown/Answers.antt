@@ -1,6 +1,8 @@
-use Rattle.std.proofs.Common.{◌∙◌, map, sym}
+use Rattle.std.proofs.Common.{◌∙◌, map, subst, sym}
 use Rattle.std.proofs.lemmas.Result.{IfOk-weaker}
 use Rattle.zone_rdata.specs.Item.{raw}
+use Rattle.zone_files.specs.Expansion.{Holds}
+use Rattle.zone_files.specs.Machine.Stepping.{UnknownAs}
 use Rattle.zone_files.proofs.Expansions.Stepping.{generate_taken, other_taken}
 use Rattle.zone_files.proofs.expansion.holding.Holding.take_unknown.Goals as goal
 
@@ -10,4 +12,7 @@ returns-then-says_generate c =
 
 pub returns-else-says_generate : goal.returns-else-says_generate
 returns-else-says_generate c =
-    IfOk-weaker c.keep.result _ _ (λ step w. other_taken c.args.self.now c.args.entry.now (map raw c.args.items.now) step c.args.out.now.items c.keep.new.out.items (sym c.says_generate.ensures ∙ c.if-says_generate.false) w) c.keep.ensures
+    IfOk-weaker c.keep.result _ _
+    (λ step w. subst (λ (h : Holds). UnknownAs c.args.self.now c.args.entry.now (map raw c.args.items.now) step h c.args.out.now.items c.keep.new.out.items) (sym c.pass.ensures)
+    (other_taken c.args.self.now c.args.entry.now (map raw c.args.items.now) step c.args.out.now.items c.keep.new.out.items (sym c.says_generate.ensures ∙ c.if-says_generate.false) w))
+    c.keep.ensures

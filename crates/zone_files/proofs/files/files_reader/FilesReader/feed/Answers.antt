@@ -10,4 +10,4 @@ returns-clause-reads g c =
     (subst (λ (octets : List ℕ). FeedsInnermost c.args.self.now.stack octets c.in-Ok.left.now c.feed.new.self c.args.self.now.text.items c.feed.new.out.items) c.left-piece.ensures c.in-Ok.ensures.feeds) in
     λ main first opened text was.
     stands_fed g.R.OctetReader.state main first opened text c.args.self.now _ c.in-Ok.left.now feeds refl
-    (c.keep.ensures ∙ kept_is piece feeds.part c.in-Ok.left.now _ feeds.whole refl) refl refl refl was
+    (c.keep.ensures ∙ kept_is piece feeds.part c.in-Ok.left.now _ feeds.whole refl) refl refl refl refl was

@@ -1,0 +1,4 @@
+pub mod Least
+pub mod Lines
+pub mod Reading
+pub mod Sought

@@ -1,0 +1,1 @@
+"""Zones x servers: the configuration, the workers, and what is written of their comparisons."""
