@@ -13,3 +13,4 @@ mod Fitting
 mod CanonicalLines
 mod Origins
 mod OneText
+mod OneItems

@@ -1,4 +1,5 @@
 use Rattle.words_print.proofs.OneText.{strings, base64_items, hex_items, perhaps_items, string_items, value_items}
+use Rattle.words_print.proofs.OneItems.{location, nothing}
 use Rattle.words_print.proofs.laws.printed.one_item_of_octets.Goals as goal
 
 pub returns-clause-hex : goal.returns-clause-hex
@@ -18,3 +19,9 @@ returns-clause-perhaps c = perhaps_items
 
 pub returns-clause-strings : goal.returns-clause-strings
 returns-clause-strings c = strings
+
+pub returns-clause-location : goal.returns-clause-location
+returns-clause-location c = location
+
+pub returns-clause-nothing : goal.returns-clause-nothing
+returns-clause-nothing c = nothing
