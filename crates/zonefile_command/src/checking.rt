@@ -27,7 +27,7 @@ pub(crate) fn check<S: ZoneFiles, W: OctetWriter, E: OctetWriter>(
     errors: &mut E,
 ) -> u8
     ensures { Checks (folder S.opens_main S.opens S.File.state)
-        (option_map (λ folder. folder.now) directory.entry) asked.0.now asked.1.now asked.2
+        (option_map (λ folder. folder.now) directory.entry) asked.entry.0.now asked.entry.1.now asked.entry.2
         files.old files.new
         (outputs (W.state output.old) (W.state output.new) (E.state errors.old) (E.state errors.new))
         result }
@@ -69,7 +69,7 @@ fn tell_end<W: OctetWriter, E: OctetWriter>(
     output: &mut W,
     errors: &mut E,
 ) -> u8
-    ensures { TellsEnd count end
+    ensures { TellsEnd (W.state output.old).octets count end
         (outputs (W.state output.old) (W.state output.new) (E.state errors.old) (E.state errors.new))
         result }
 {

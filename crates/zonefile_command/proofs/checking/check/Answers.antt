@@ -1,5 +1,5 @@
 use Rattle.zonefile_command.specs.Checks.{checked}
-use Rattle.zonefile_command.proofs.Checking.{was_unchecked, was_unopened}
+use Rattle.zonefile_command.proofs.Counted.{was_unchecked, was_unopened}
 use Rattle.zonefile_command.proofs.checking.check.Goals as goal
 
 pub returns-in-Ok : goal.returns-in-Ok

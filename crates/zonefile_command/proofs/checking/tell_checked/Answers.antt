@@ -1,11 +1,10 @@
-use Rattle.std.proofs.Common.{ap, length, ◌∙◌}
-use Rattle.zonefile_command.proofs.Checking.{all_told, part_told}
+use Rattle.zonefile_command.proofs.Counted.{all_told, part_told}
 use Rattle.zonefile_command.proofs.checking.tell_checked.Goals as goal
 
 pub returns-in-Ok : goal.returns-in-Ok
 returns-in-Ok g c =
-    all_told c.args.checked.faults.items c.args.checked.«end» (g.W.OctetWriter.state c.args.output.now) (g.W.OctetWriter.state c.write_found_faults.new.writer) _ (g.E.OctetWriter.state c.args.errors.now) _
-    c.deref.result.now c.len.result _ c.deref.ensures.value c.len.ensures c.in-Ok.ensures.written c.in-Ok.ensures.works c.tell_end.ensures
+    all_told (g.W.OctetWriter.state c.args.output.now) (g.W.OctetWriter.state c.write_found_faults.new.writer) _ (g.E.OctetWriter.state c.args.errors.now) _ c.in-Ok.ensures.works
+    c.args.checked.faults.items c.args.checked.«end» c.deref.result.now c.len.result _ c.deref.ensures.value c.len.ensures c.in-Ok.ensures.written c.tell_end.ensures
 
 pub returns-in-Err : goal.returns-in-Err
 returns-in-Err g c =

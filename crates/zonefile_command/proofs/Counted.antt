@@ -1,22 +1,23 @@
 -- From what is checked and told to what a run of `check` leaves.
-use Rattle.std.proofs.Common.{◌≡◌, ◌++◌, false, ℕ, zero, suc, ◌<◌, ◌≤◌, List, [], length, arith, subst, sym, refl, absurd, ◌∙◌}
+use Rattle.std.proofs.Common.{◌≡◌, ◌++◌, true, false, ℕ, zero, suc, ◌<◌, ◌≤◌, List, [], length, arith, subst, sym, refl, absurd, ◌∙◌}
 use Rattle.std.proofs.KnownBytes.{Keeps-refl}
 use Rattle.std.specs.Prelude.{Option, None, Some, min}
 use Rattle.std.specs.Io.KnownBytes.{Appends}
 use Rattle.clap.specs.Words.{Text}
-use Rattle.command_input.specs.Answering.{Answers, Outputs, outputs}
+use Rattle.command_input.specs.Answering.{Answers, Outputs, answered, outputs, unanswered}
 use Rattle.zone_name.specs.Common.{Labels, NothingIs}
 use Rattle.zone_rdata.specs.Number.{IsCapped, IsDecimal}
 use Rattle.zone_rdata.specs.declared.fault.Stop.{Stop}
 use Rattle.zone_rdata.specs.declared.fault.Stop.TheVariants.{Memory, Read, Refused, Write}
 use Rattle.zone_print.specs.Device.{Device, WorksOn}
 use Rattle.zone_print.specs.Writing.{AppendsPart, IsFailedWrite}
-use Rattle.zone_engine.specs.Telling.{TellsLine, stop_line, stop_status}
+use Rattle.zone_engine.specs.Telling.{TellsLine, records_line, stop_line, stop_status}
 use Rattle.zone_files.specs.declared.files.stop.FilesStop.TheVariants.{Input}
 use Rattle.zone_faults.specs.FoundLine.{found_lines}
 use Rattle.zone_faults.specs.declared.finding.CheckEnd.{CheckEnd}
+use Rattle.zone_faults.specs.declared.finding.CheckEnd.TheVariants.{Accepted, Enough, Last, Unread}
 use Rattle.zone_faults.specs.declared.found_fault.FoundFault.{FoundFault}
-use Rattle.zonefile_command.specs.Checks.{Checks, TellsAccepted, TellsChecked, TellsEnd, faults_line, told, unchecked, unopened, untold}
+use Rattle.zonefile_command.specs.Checks.{AnswersAfter, Checks, TellsAccepted, TellsChecked, TellsEnd, answered_after, faults_line, told, unanswered_after, unchecked, unopened, untold}
 use Rattle.zonefile_command.specs.Inputs.{Folder}
 use Rattle.zonefile_command.specs.Order.{IsMost}
 use Rattle.zonefile_command.specs.Told.{IsStopLine, files_status}
@@ -36,12 +37,30 @@ module _ {S File : Type 0} (folder : Folder S File) (directory : Option (List �
 
 -- ---- what is told
 
-module _ (faults : List FoundFault) (ending : CheckEnd) (output between output' errors errors' : Device) where
-  pub all_told : (lent : List FoundFault) (count status : ℕ) → lent ≡ faults → count ≡ length faults → Appends output.octets between.octets (found_lines lent) → WorksOn output between
-      → TellsEnd count ending (outputs between output' errors errors') status → TellsChecked faults ending (outputs output output' errors errors') status
-  all_told lent count status same counted written works ends =
-      told between status (subst (λ (fs : List FoundFault). Appends output.octets between.octets (found_lines fs)) same written) works
-      (subst (λ n. TellsEnd n ending (outputs between output' errors errors') status) counted ends)
+-- an answer is one behind what was written before
+pub after : (line : List ℕ) (answer : ℕ) (o : Outputs) (status : ℕ) → Answers line answer o status → AnswersAfter o.output.octets line answer o status
+after line answer o status (answered written works left) = answered_after written works left
+after line answer o status (unanswered status' part fails telling) = unanswered_after status' part fails telling
+
+module _ (output between output' errors errors' : Device) (worked : WorksOn output between) where
+  answers_on : (line : List ℕ) (answer status : ℕ) → AnswersAfter between.octets line answer (outputs between output' errors errors') status
+      → AnswersAfter between.octets line answer (outputs output output' errors errors') status
+  answers_on line answer status (answered_after written works left) = answered_after written (λ w. works (worked w)) left
+  answers_on line answer status (unanswered_after status' part fails telling) = unanswered_after status' part (λ w. fails (worked w)) telling
+
+  ends_on : (count status : ℕ) (ending : CheckEnd) → TellsEnd between.octets count ending (outputs between output' errors errors') status
+      → TellsEnd between.octets count ending (outputs output output' errors errors') status
+  ends_on zero status (Accepted records) ends = answers_on (records_line records) 0 status ends
+  ends_on (suc count) status (Accepted records) ends = answers_on (faults_line (suc count) false) 3 status ends
+  ends_on count status Enough ends = answers_on (faults_line count true) 3 status ends
+  ends_on count status Last ends = answers_on (faults_line count false) 3 status ends
+  ends_on count status (Unread stack) ends = record { line = ends.line; is = ends.is; telling = ends.telling; keeps = ends.keeps; works = λ w. ends.works (worked w) }
+
+  pub all_told : (faults : List FoundFault) (ending : CheckEnd) (lent : List FoundFault) (count status : ℕ) → lent ≡ faults → count ≡ length faults → Appends output.octets between.octets (found_lines lent)
+      → TellsEnd between.octets count ending (outputs between output' errors errors') status → TellsChecked faults ending (outputs output output' errors errors') status
+  all_told faults ending lent count status same counted written ends =
+      told between.octets status (subst (λ (fs : List FoundFault). Appends output.octets between.octets (found_lines fs)) same written)
+      (ends_on (length faults) status ending (subst (λ n. TellsEnd between.octets n ending (outputs between output' errors errors') status) counted ends))
 
 pub part_told : (faults : List FoundFault) (ending : CheckEnd) (output output' errors errors' : Device) (lent : List FoundFault) (why : Stop) (status : ℕ) → lent ≡ faults → AppendsPart output.octets output'.octets (found_lines lent)
     → IsFailedWrite output output' why → TellsLine (stop_line why) (stop_status why) errors errors' status
@@ -52,9 +71,9 @@ part_told faults ending output output' errors errors' lent Write status same par
     untold status (subst (λ (fs : List FoundFault). AppendsPart output.octets output'.octets (found_lines fs)) same part) failed telling
 part_told faults ending output output' errors errors' lent Memory status same part failed telling = absurd failed
 
-pub some_faults : (count records : ℕ) (o : Outputs) (status : ℕ) → (count ≡ 0 → ⊥) → Answers (faults_line count false) 3 o status → TellsAccepted count records o status
-some_faults zero records o status some answers = absurd (some refl)
-some_faults (suc count) records o status some answers = answers
+pub some_faults : (between : Option (List ℕ)) (count records : ℕ) (o : Outputs) (status : ℕ) → (count ≡ 0 → ⊥) → AnswersAfter between (faults_line count false) 3 o status → TellsAccepted between count records o status
+some_faults between zero records o status some answers = absurd (some refl)
+some_faults between (suc count) records o status some answers = answers
 
 -- ---- how many are asked for
 
