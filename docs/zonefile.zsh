@@ -8,6 +8,7 @@ _zonefile() {
         'explain:report how many records the zone has, or why and where it is refused'
         'compare:report whether two inputs hold one zone'
         'diff:write the records by which two zones differ'
+        'check:report how many records the zone has, or every fault'
         'expand:write one master file of the file and those that it includes'
         'help:print help'
     )
@@ -29,6 +30,9 @@ _zonefile() {
                         '1:origin:(transfer)' '2:file:_files'
                     ;;
                 explain) _arguments $options '1:origin:(transfer)' '2:file:_files' ;;
+                check)
+                    _arguments $options '--most[report so many faults at most]:number:' '1:origin:' '2:file:_files'
+                    ;;
                 expand) _arguments $options '1:origin:' '2:file:_files' ;;
                 compare)
                     _arguments $options '1:origin:(transfer)' '2:file:_files' \
@@ -39,7 +43,7 @@ _zonefile() {
                         '--generic[write further types in the generic form]' \
                         '1:origin:(transfer)' '2:file:_files' '3:origin:(transfer)' '4:file:_files'
                     ;;
-                help) _arguments '1:command:(normalise explain compare diff expand)' ;;
+                help) _arguments '1:command:(normalise explain compare diff check expand)' ;;
             esac
             ;;
     esac

@@ -3,3 +3,4 @@ pub mod Shown
 pub mod Running
 pub mod Texts
 pub mod Zones
+pub mod Counted

@@ -1,5 +1,5 @@
 -- What a command line of `zonefile` asks for (this project's own).
-use Rattle.std.specs.Prelude.{◌≡◌, ◌≢◌, ◌⊎◌, Bool, if◌then◌else◌, List, [], ◌∷◌, codes, option_map, string_bytes, Option, Some, None}
+use Rattle.std.specs.Prelude.{◌≡◌, ◌≢◌, ◌⊎◌, ℕ, ◌<◌, Bool, if◌then◌else◌, List, [], ◌∷◌, codes, option_map, string_bytes, Option, Some, None}
 use Rattle.clap.specs.Words.{Text}
 use Rattle.command_line.specs.Calls.{Called, Calls, Commands, IsNoCall, commands_of, text_of}
 use Rattle.command_line.specs.declared.program.ArgumentKind.{ArgumentKind}
@@ -7,16 +7,17 @@ use Rattle.command_line.specs.declared.program.ArgumentKind.TheVariants.{Word, F
 use Rattle.command_input.specs.Order.{Gives, HasBadOrigin, HasFlag, HasText}
 use Rattle.zone_name.specs.Common.{Labels, NothingIs}
 use Rattle.zone_name.specs.Spelling.{SpellsCased}
+use Rattle.zone_rdata.specs.Number.{IsDecimal}
 use Rattle.zone_difference.specs.declared.name_case.NameCase.{NameCase}
 use Rattle.zone_difference.specs.declared.name_case.NameCase.TheVariants.{Exact, Folded}
 use Rattle.zonefile_command.specs.declared.notation.Notation.{Notation}
 use Rattle.zonefile_command.specs.declared.notation.Notation.TheVariants.{Generic, Presentation}
 use Rattle.zonefile_command.specs.declared.order.FileSource.{FileSource}
 use Rattle.zonefile_command.specs.declared.order.Action.{Action}
-use Rattle.zonefile_command.specs.declared.order.Action.TheVariants.{Normalise, Explain, Compare, Difference, Expand}
+use Rattle.zonefile_command.specs.declared.order.Action.TheVariants.{Normalise, Explain, Compare, Difference, Check, Expand}
 use Rattle.zonefile_command.specs.declared.order.Order.{Order}
 use Rattle.zonefile_command.specs.declared.no_order.NoOrder.{NoOrder}
-use Rattle.zonefile_command.specs.declared.no_order.NoOrder.TheVariants.{BadOrigin, NoCall}
+use Rattle.zonefile_command.specs.declared.no_order.NoOrder.TheVariants.{BadMost, BadOrigin, NoCall}
 
 -- the option that each command has: the directory of the files
 abbrev pub directory_option : Text × ArgumentKind
@@ -42,6 +43,11 @@ abbrev pub diff_arguments : List (Text × ArgumentKind)
 diff_arguments =
     two_files ((codes "exact", Flag) ∷ (codes "generic", Flag) ∷ directory_option ∷ [])
 
+-- those of `check`
+abbrev pub check_arguments : List (Text × ArgumentKind)
+check_arguments =
+    (codes "ORIGIN", Word) ∷ (codes "FILE", Word) ∷ (codes "most", Value) ∷ directory_option ∷ []
+
 -- the program's commands with their arguments
 abbrev pub commands : Commands
 commands =
@@ -50,6 +56,7 @@ commands =
     ∷ record { word = codes "explain"; arguments = one_file }
     ∷ record { word = codes "compare"; arguments = two_files (directory_option ∷ []) }
     ∷ record { word = codes "diff"; arguments = diff_arguments }
+    ∷ record { word = codes "check"; arguments = check_arguments }
     ∷ record { word = codes "expand"; arguments = one_file }
     ∷ [])
 
@@ -90,6 +97,11 @@ AreSources call first second =
     IsSource call (codes "ORIGIN1") (codes "FILE1") first
     × IsSource call (codes "ORIGIN2") (codes "FILE2") second
 
+-- how many faults are reported at most: a number of `--most`, or 20
+abbrev pub IsMost : Option Text → ℕ → Type 0
+IsMost None most = most ≡ 20
+IsMost (Some text) most = IsDecimal text most × (0 < most) × (most < 4294967296)
+
 -- what a command with its texts asks for
 abbrev pub AsksFor : Called → Action → Type 0
 AsksFor call (Normalise source notation) =
@@ -103,6 +115,11 @@ AsksFor call (Difference first second form) =
     (call.0 ≡ codes "diff") × AreSources call first second
     × HasFlag call (codes "exact") (λ given. form.name_case ≡ case_for given)
     × HasFlag call (codes "generic") (λ given. form.notation ≡ notation_of_changes given)
+AsksFor call (Check origin file most) =
+    (call.0 ≡ codes "check")
+    × HasText call (codes "ORIGIN") (λ text. IsFileOrigin text origin)
+    × (text_of call (codes "FILE") ≡ Some (string_bytes file))
+    × IsMost (text_of call (codes "most")) most
 AsksFor call (Expand origin file) =
     (call.0 ≡ codes "expand")
     × HasText call (codes "ORIGIN") (λ text. IsFileOrigin text origin)
@@ -118,15 +135,22 @@ Asks call order =
 abbrev pub Orders : List Text → Order → Type 0
 Orders = Gives commands Asks
 
--- A text of an origin that asks for nothing: the first one, from the left. `expand` takes no
--- transfer, which has no expanded text.
+-- A text of an origin that asks for nothing: the first one, from the left. `expand` and `check` take
+-- no transfer, which has no expanded text.
 abbrev pub RefusesOrigin : Called → Type 0
 RefusesOrigin call =
     HasBadOrigin IsOriginText call
-    ⊎ ((call.0 ≡ codes "expand")
+    ⊎ (((call.0 ≡ codes "expand") ⊎ (call.0 ≡ codes "check"))
     × HasText call (codes "ORIGIN") (λ text. NothingIs (IsFileOrigin text)))
 
--- why the words give no order: the text of an origin asks for nothing; or they call nothing
+-- a number of faults that asks for nothing
+abbrev pub RefusesMost : Called → Type 0
+RefusesMost call =
+    (call.0 ≡ codes "check") × NothingIs (IsMost (text_of call (codes "most")))
+
+-- why the words give no order: the text of an origin or of `--most` asks for
+-- nothing; or they call nothing
 abbrev pub IsNoOrder : List Text → NoOrder → Type 0
 IsNoOrder words BadOrigin = (call : Called) × Calls commands words call × RefusesOrigin call
+IsNoOrder words BadMost = (call : Called) × Calls commands words call × RefusesMost call
 IsNoOrder words (NoCall no_call) = IsNoCall commands words no_call

@@ -19,13 +19,14 @@ use Rattle.words_print.specs.Shown.{IsShownText}
 use Rattle.zone_files.specs.Expansion.{Ending, Files, IsExpanded}
 use Rattle.zone_files.specs.Reading.{ReadsPart}
 use Rattle.zone_files.specs.declared.files.stop.FilesStop.{FilesStop}
+use Rattle.zonefile_command.specs.Checks.{Checks}
 use Rattle.zonefile_command.specs.Inputs.{Folder, GiveZones, GivesNone, GivesNoneOfTwo, GivesZone, path_of}
 use Rattle.zonefile_command.specs.Presented.{StopsPresenting, StopsShowing}
 use Rattle.zonefile_command.specs.Told.{IsStopLine, files_status}
 use Rattle.zonefile_command.specs.declared.notation.Notation.{Notation}
 use Rattle.zonefile_command.specs.declared.notation.Notation.TheVariants.{Generic, Presentation}
 use Rattle.zonefile_command.specs.declared.order.Action.{Action}
-use Rattle.zonefile_command.specs.declared.order.Action.TheVariants.{Normalise, Explain, Compare, Difference, Expand}
+use Rattle.zonefile_command.specs.declared.order.Action.TheVariants.{Normalise, Explain, Compare, Difference, Check, Expand}
 use Rattle.zonefile_command.specs.declared.order.DifferenceForm.{DifferenceForm}
 use Rattle.zonefile_command.specs.declared.order.FileSource.{FileSource}
 use Rattle.zonefile_command.specs.declared.order.Order.{Order}
@@ -197,6 +198,8 @@ RunsAction folder directory old new o status (Compare first second) =
     Compares folder directory first second old new o status
 RunsAction folder directory old new o status (Difference first second form) =
     ShowsDifference folder directory first second form old new o status
+RunsAction folder directory old new o status (Check origin path most) =
+    Checks folder directory origin (string_bytes path) most old new o status
 RunsAction folder directory old new o status (Expand origin path) =
     Expands folder directory origin (string_bytes path) old new o status
 

@@ -35,6 +35,12 @@ pub(crate) static PROGRAM: Program = Program {
             arguments: &[ORIGIN1, FILE1, ORIGIN2, FILE2, EXACT, GENERIC, DIRECTORY],
         },
         ProgramCommand {
+            word: "check",
+            about: "Reports how many records the zone has, or every fault, each with its place",
+            usage: "zonefile check <ORIGIN> <FILE> [--most <N>] [--directory <DIR>]",
+            arguments: &[EXPANDED_ORIGIN, FILE, MOST, DIRECTORY],
+        },
+        ProgramCommand {
             word: "expand",
             about: "Writes one master file of the file and those that it includes, each $GENERATE in its place",
             usage: "zonefile expand <ORIGIN> <FILE> [--directory <DIR>]",
@@ -61,7 +67,7 @@ const ORIGIN2: Argument = Argument {
     kind: ArgumentKind::Word,
 };
 
-/// The origin of a file that is expanded: a transfer has no expanded text.
+/// The origin of a file that is expanded or checked: a transfer has no expanded text.
 const EXPANDED_ORIGIN: Argument = Argument {
     id: "ORIGIN",
     help: "The file's origin, a name",
@@ -104,6 +110,12 @@ const GENERIC: Argument = Argument {
     kind: ArgumentKind::Flag,
 };
 
+const MOST: Argument = Argument {
+    id: "most",
+    help: "Report so many faults at most, 20 if no number is given",
+    kind: ArgumentKind::Value,
+};
+
 const DIRECTORY: Argument = Argument {
     id: "directory",
     help: "The directory of the files that $INCLUDE names",
@@ -119,6 +131,7 @@ zonefile normalise <ORIGIN> <FILE> [--words] [--directory <DIR>]
        zonefile explain <ORIGIN> <FILE> [--directory <DIR>]
        zonefile compare <ORIGIN1> <FILE1> <ORIGIN2> <FILE2> [--directory <DIR>]
        zonefile diff <ORIGIN1> <FILE1> <ORIGIN2> <FILE2> [--exact] [--generic] [--directory <DIR>]
+       zonefile check <ORIGIN> <FILE> [--most <N>] [--directory <DIR>]
        zonefile expand <ORIGIN> <FILE> [--directory <DIR>]";
 
 /// What stands below the help of the program and of each command.

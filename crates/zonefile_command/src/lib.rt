@@ -1,6 +1,7 @@
 //! The orders of the command line of `zonefile`, and what a run of one reads, writes and returns.
 #![tactic(auto)]
 
+mod checking;
 mod command;
 mod differing;
 mod expanding;

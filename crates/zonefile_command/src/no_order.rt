@@ -8,6 +8,8 @@ use std::alloc::AllocError;
 pub enum NoOrder {
     /// An origin is none that the command takes.
     BadOrigin,
+    /// The number of faults to report is none from 1 to 4294967295.
+    BadMost,
     /// The arguments call nothing: they ask for help or the version, or are no command with all its
     /// arguments; or memory was refused.
     NoCall(NoCall),

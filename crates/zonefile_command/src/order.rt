@@ -1,8 +1,8 @@
 //! What a command line asks for.
 ghost use Rattle.std.specs.Prelude.{◌≡◌, codes, drop, map, option_map, IfErr, IfOk, IsSome, string_bytes};
 ghost use Rattle.command_line.specs.Calls.{IsOneOf, text_of};
-ghost use Rattle.zonefile_command.specs.Machine.Ordering.{IsOfAction, IsOfOrigin};
-ghost use Rattle.zonefile_command.specs.Order.{AreSources, AsksFor, IsFileOrigin, IsNoOrder, IsOriginText, Orders, case_for, commands, notation_for, notation_of_changes};
+ghost use Rattle.zonefile_command.specs.Machine.Ordering.{IsOfAction, IsOfMost, IsOfOrigin};
+ghost use Rattle.zonefile_command.specs.Order.{AreSources, AsksFor, IsFileOrigin, IsMost, IsNoOrder, IsOriginText, Orders, case_for, commands, notation_for, notation_of_changes};
 
 use crate::command::PROGRAM;
 use crate::no_order::NoOrder;
@@ -11,12 +11,16 @@ use command_line::{Call, after_name, call_of};
 use std::alloc::{AllocError, Global};
 use zone_difference::NameCase;
 use zone_name::CasedName;
+use zone_rdata::decimal_of;
 
 /// The word that stands in the place of an origin if the input is a transfer.
 const TRANSFER: &str = "transfer";
 
 /// The text that spells the origin which holds, and which no file has before its first entry.
 const AT: &str = "@";
+
+/// How many faults are reported at most if no number is stated.
+const MOST: u64 = 20;
 
 /// An input of the program.
 #[derive(Debug, Drop)]
@@ -47,6 +51,8 @@ pub enum Action {
     Compare(FileSource, FileSource),
     /// Write the changes from the zone of one input to that of another.
     Difference(FileSource, FileSource, DifferenceForm),
+    /// Report every fault of the master file at this path, under this origin, at most so many.
+    Check(CasedName, String, u64),
     /// Write the expanded text of the master file at this path, under this origin.
     Expand(CasedName, String),
 }
@@ -65,7 +71,7 @@ pub struct Order {
 /// # Errors
 ///
 /// `BadOrigin` if the text of an origin is neither a name nor `transfer`, or `transfer` is to be
-/// expanded; `NoCall` if the arguments ask for help or the version, or `clap` gives no matches for
+/// expanded or checked; `BadMost` if that of `--most` is no number from 1 to 4294967295; `NoCall` if the arguments ask for help or the version, or `clap` gives no matches for
 /// one of the commands, or memory was refused.
 pub fn order_of(alloc: Global, words: &[String]) -> Result<Order, NoOrder>
     ensures ordered { IfOk result (Orders (map string_bytes words.now)) }
@@ -82,7 +88,7 @@ pub fn order_of(alloc: Global, words: &[String]) -> Result<Order, NoOrder>
 /// # Errors
 ///
 /// `BadOrigin` if the text of an origin is neither a name nor `transfer`, or `transfer` is to be
-/// expanded; `NoCall` if the arguments ask for help or the version, or `clap` gives no matches for
+/// expanded or checked; `BadMost` if that of `--most` is no number from 1 to 4294967295; `NoCall` if the arguments ask for help or the version, or `clap` gives no matches for
 /// one of the commands, or memory was refused.
 pub fn order_after_name(alloc: Global, words: &[String]) -> Result<Order, NoOrder>
     ensures ordered { IfOk result (Orders (drop 1 (map string_bytes words.now))) }
@@ -114,6 +120,11 @@ fn action_of(alloc: Global, call: &Call) -> Result<Action, NoOrder>
                 notation: changes_notation(call.flag("generic")),
             };
             Ok(Action::Difference(first, second, form))
+        }
+        "check" => {
+            let origin = name_of(call.text("ORIGIN"))?;
+            let most = most_of(call.value("most"))?;
+            Ok(Action::Check(origin, String::from_str(alloc, call.text("FILE"))?, most))
         }
         "expand" => {
             let origin = name_of(call.text("ORIGIN"))?;
@@ -150,6 +161,26 @@ fn changes_notation(generic: bool) -> Notation
     match generic {
         true => Notation::Generic,
         false => Notation::Presentation,
+    }
+}
+
+/// How many faults are reported at most: a number from 1 to 4294967295, or 20 if none is stated.
+fn most_of(stated: Option<&str>) -> Result<u64, NoOrder>
+    ensures found { IfOk result (IsMost (option_map (λ text. text.now) stated.entry)) }
+    ensures refused { IfErr result (IsOfMost (option_map (λ text. text.now) stated.entry)) }
+{
+    let Some(text) = stated else {
+        return Ok(MOST);
+    };
+    match decimal_of(text.as_bytes()) {
+        Some(number) => {
+            if number == 0 || number > u64::from(u32::MAX) {
+                Err(NoOrder::BadMost)
+            } else {
+                Ok(number)
+            }
+        }
+        None => Err(NoOrder::BadMost),
     }
 }
 

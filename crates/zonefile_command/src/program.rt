@@ -8,6 +8,7 @@ ghost use Rattle.zonefile_command.specs.Inputs.{folder};
 ghost use Rattle.zonefile_command.specs.Run.{AppendsText, Compares, Explains, Normalises, Runs, StopsText};
 ghost use Rattle.zonefile_command.specs.Told.{IsStopLine, files_status};
 
+use crate::checking::check;
 use crate::differing::show_difference;
 use crate::expanding::expand;
 use crate::files::ZoneFiles;
@@ -28,9 +29,9 @@ use zone_set::Zone;
 /// The whole program over files, a writer and an error writer. It returns the exit status: 0 if the
 /// text was written, the zone was accepted or nothing differs; 1 if two zones differ; 3 if an input
 /// is refused; 4 if reading, writing or memory failed. With 3 and 4 a line on the error writer says why,
-/// with the place in the file; `explain` writes it to the writer with 3. If `expand` has 3 or 4, what it
-/// wrote ends with a line `$STOPPED`, as far as the writer took it. No writer is flushed, and one that
-/// failed isn't called again.
+/// with the place in the file; `explain` and `check` write it to the writer with 3. If `expand` has 3
+/// or 4, what it wrote ends with a line `$STOPPED`, as far as the writer took it. No writer is flushed,
+/// and one that failed isn't called again.
 pub fn run<S: ZoneFiles, W: OctetWriter, E: OctetWriter>(
     alloc: Global,
     order: &Order,
@@ -55,6 +56,10 @@ pub fn run<S: ZoneFiles, W: OctetWriter, E: OctetWriter>(
             show_difference(
                 alloc, directory, first, second, *form, files, output, errors,
             )
+        }
+        Action::Check(origin, path, most) => {
+            let asked = (origin, path.as_str(), *most);
+            check(alloc, directory, asked, files, output, errors)
         }
         Action::Expand(origin, path) => {
             let path = path.as_str();
@@ -144,7 +149,11 @@ fn explain<S: ZoneFiles, W: OctetWriter, E: OctetWriter>(
 }
 
 /// Writes how many records a zone has, and returns the status.
-fn tell_count<W: OctetWriter, E: OctetWriter>(count: u64, output: &mut W, errors: &mut E) -> u8
+pub(crate) fn tell_count<W: OctetWriter, E: OctetWriter>(
+    count: u64,
+    output: &mut W,
+    errors: &mut E,
+) -> u8
     ensures { Answers (records_line count) 0
         (outputs (W.state output.old) (W.state output.new) (E.state errors.old) (E.state errors.new)) result }
 {

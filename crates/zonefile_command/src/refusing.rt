@@ -7,6 +7,9 @@ use command_line::NoCall;
 use zone_engine::{OUT_OF_MEMORY, tell};
 use zone_print::OctetWriter;
 
+/// What is printed if the number of faults to report is none.
+const BAD_MOST: &str = "error: --most needs a number from 1 to 4294967295";
+
 /// Prints why a command line is no order, and answers the status: help and the version on the writer,
 /// with status 0; all else on the error writer.
 pub fn refuse<W: OctetWriter, E: OctetWriter>(
@@ -24,6 +27,7 @@ pub fn refuse<W: OctetWriter, E: OctetWriter>(
             LineFault::BadOrigin.text(),
             status::BAD_COMMAND_LINE,
         ),
+        NoOrder::BadMost => tell(errors, "", BAD_MOST, status::BAD_COMMAND_LINE),
         NoOrder::NoCall(no_call) => match no_call {
             NoCall::Shown(text) => {
                 answer_line("", text.as_str(), status::SUCCESS, output, errors)

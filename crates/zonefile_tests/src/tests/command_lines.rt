@@ -14,7 +14,7 @@ struct Given;
 impl Question for Given {
     fn answer(alloc: Global, asked: &'static str, out: &mut Vec<u8>) -> Result<(), Fail> {
         match order_of(alloc, &words_of(alloc, asked)?) {
-            Ok(order) => push_order(out, &order),
+            Ok(order) => push_order(alloc, out, &order),
             Err(no_order) => {
                 let (mut shown, mut told) = (roomy(alloc)?, roomy(alloc)?);
                 let status = refuse(&no_order, &mut shown, &mut told);
@@ -32,7 +32,7 @@ impl Question for Given {
 }
 
 /// Appends an order.
-fn push_order(out: &mut Vec<u8>, order: &Order) -> Result<(), Fail> {
+fn push_order(alloc: Global, out: &mut Vec<u8>, order: &Order) -> Result<(), Fail> {
     if let Some(directory) = &order.directory {
         push_text(out, directory.as_str())?;
         push_text(out, ": ")?;
@@ -63,6 +63,10 @@ fn push_order(out: &mut Vec<u8>, order: &Order) -> Result<(), Fail> {
             push_text(out, first.file.as_str())?;
             push_text(out, " to ")?;
             push_text(out, second.file.as_str())
+        }
+        Action::Check(origin, file, most) => {
+            out.extend_from_slice(origin.wire())?;
+            push_words(alloc, out, format_args!("{}, {most} faults", file.as_str()))
         }
         Action::Expand(origin, file) => {
             out.extend_from_slice(origin.wire())?;
@@ -96,6 +100,13 @@ diff x a y b --generic --exact => exactly: in the generic form: a to b
 diff x a y => told 2 error: the following required arguments were not provided:
 diff x a y b --words => told 2 error: unexpected argument '--words' found
 diff a. f b..c g => told 2 F46 BadOrigin: an origin is an absolute name or the word transfer
+check x f => \x01x\0f, 20 faults
+check x f --most 1 => \x01x\0f, 1 faults
+check x f --most=0004294967295 --directory d => d: \x01x\0f, 4294967295 faults
+check x f --most 0 => told 2 error: --most needs a number from 1 to 4294967295
+check x f --most 4294967296 => told 2 error: --most needs a number from 1 to 4294967295
+check x f --most ten => told 2 error: --most needs a number from 1 to 4294967295
+check transfer f => told 2 F46 BadOrigin: an origin is an absolute name or the word transfer
 expand x f => \x01x\0f
 expand transfer f => told 2 F46 BadOrigin: an origin is an absolute name or the word transfer
 explain @ f => told 2 F46 BadOrigin: an origin is an absolute name or the word transfer

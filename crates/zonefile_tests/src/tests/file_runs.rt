@@ -32,7 +32,7 @@ fn run_of(alloc: Global, line: &str, files: &str, each: usize) -> Result<Run, Fa
 
 /// What a run does, which must be the same over files that give all at once and over files that give
 /// an octet at a time.
-struct Running;
+pub(crate) struct Running;
 
 impl Question for Running {
     fn answer(alloc: Global, asked: &'static str, out: &mut Vec<u8>) -> Result<(), Fail> {
@@ -382,6 +382,7 @@ fn a_failing_writer_is_reported(rt: HostRuntime) -> Result<(), Fail> {
         "explain example. a.zone",
         "diff example. a.zone example. c.zone",
         "diff --generic example. a.zone example. c.zone",
+        "check example. a.zone",
     ] {
         let mut writer = Narrow::new(alloc, 3, 10, true)?;
         let mut told = roomy(alloc)?;
