@@ -28,10 +28,10 @@ use Rattle.zone_files.specs.Expansion.{DirectiveBecomes, EachExpands, Ending, Ex
 
 -- ---- names, or none
 
-abbrev Named : (Labels → Type 0) → Type 0
+abbrev pub Named : (Labels → Type 0) → Type 0
 Named Is = (named : Option Labels) × IsOneOrNone Is named × IfSome named IsCasedName
 
-spelled_or_not : (above : Labels) → IsCasedName above → (text : List ℕ) → AreOctets text → Named (SpellsCased (Some above) text)
+pub spelled_or_not : (above : Labels) → IsCasedName above → (text : List ℕ) → AreOctets text → Named (SpellsCased (Some above) text)
 spelled_or_not above is text low = elim ((one_verdict_cased (Some above) text is low).one_of) [
   | inl found ↦ (Some found.0, found.1, found.1.name)
   | inr wrong ↦ (None, (λ name h. SpellsCased-faultless (Some above) text name wrong.0 h wrong.1), tt)
@@ -44,7 +44,7 @@ origin_or_not above is (quoted text ∷ []) low = (None, (λ name h. h), tt)
 origin_or_not above is (bare text ∷ item ∷ items) low = (None, (λ name h. h), tt)
 origin_or_not above is (quoted text ∷ item ∷ items) low = (None, (λ name h. h), tt)
 
-owner_or_not : (origin : Labels) → IsCasedName origin → (item : RawItem) → AreOctets (item_text item) → Named (SpellsOwner origin item)
+pub owner_or_not : (origin : Labels) → IsCasedName origin → (item : RawItem) → AreOctets (item_text item) → Named (SpellsOwner origin item)
 owner_or_not origin is (bare text) low = spelled_or_not origin is text low
 owner_or_not origin is (quoted text) low = (None, (λ name h. h), tt)
 
