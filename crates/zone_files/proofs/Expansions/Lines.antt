@@ -1,5 +1,5 @@
 -- Lines that are entries by themselves, and stay.
-use Rattle.std.proofs.Common.{◌≡◌, ◌≢◌, ℕ, zero, suc, ◌<◌, ◌+◌, ◌-◌, List, [], ◌∷◌, ◌++◌, length, take, drop, Option, Some, None, Bool, true, false, if◌then◌else◌, not, ◌==◌, ◌||◌, refl, sym, ap, subst, ◌∙◌, append_assoc, append-nil, arith, ◌⊎◌, inl, inr, ap₂, eqb-true, length-append, take-append-drop}
+use Rattle.std.proofs.Common.{◌≡◌, ◌≢◌, ℕ, zero, ◌<◌, ◌+◌, ◌-◌, List, [], ◌∷◌, ◌++◌, length, take, drop, Option, Some, None, Bool, true, false, if◌then◌else◌, not, ◌==◌, ◌||◌, refl, sym, ap, subst, ◌∙◌, append_assoc, append-nil, arith, inl, inr, ap₂, eqb-true, length-append, take-append-drop}
 use Rattle.std.proofs.lemmas.List.Folds.{length-prefix_len}
 use Rattle.std.proofs.lemmas.Grind.{common_steps}
 use Rattle.std.proofs.lemmas.List.{length-take}
@@ -7,7 +7,6 @@ use Rattle.std.specs.List.{AllByRecursion, flat_map, prefix_len, slice_get}
 use Rattle.memchr.specs.Find.{Nowhere, Passes, is_byte}
 use Rattle.words_print.proofs.Cuts.{around_last_at, has_none}
 use Rattle.std.specs.Option.{option_or}
-use Rattle.std.specs.Prelude.{IfSome}
 use Rattle.zone_name.proofs.InOctets.Runs.{prefix_step}
 use Rattle.zone_name.proofs.InOctets.Pushing.{AllByRecursion-append, AllByRecursion-back, AllByRecursion-front}
 use Rattle.zone_name.specs.Common.{AreOctets, Labels}
@@ -19,9 +18,9 @@ use Rattle.zone_text.proofs.Common.{flat_map-append, rules}
 use Rattle.zone_text.specs.Entries.{Cut, cut_from, in_front_of, item_of}
 use Rattle.zone_text.specs.FirstEntry.{IsOneEntry}
 use Rattle.zone_text.specs.Statements.{Statement, directive, owned, statement_by, unowned}
-use Rattle.zone_text.specs.Tokens.{AllFollow, Cuts, IsToken, Token, bare, blank, closing, comment, depth_after, ends_item, is_blank, line_feed, opening, quoted, text, token_text}
+use Rattle.zone_text.specs.Tokens.{AllFollow, IsToken, Token, bare, blank, closing, comment, depth_after, ends_item, is_blank, line_feed, opening, quoted, text, token_text}
 use Rattle.zone_words.specs.Inherited.{IsOneOrNone}
-use Rattle.zone_files.specs.Expansion.{EntryBecomes, Files, Holds, SpellsOwner, StatementBecomes, owned_by, same, stays}
+use Rattle.zone_files.specs.Expansion.{EntryBecomes, Holds, StatementBecomes, owned_by, same, stays}
 use Rattle.zone_files.specs.FileExpander.{Continues}
 use Rattle.zone_files.specs.Machine.Lines.{AreLines, BeginsUnowned, EndsAtFeed, HasNoFeed, HasNoMark, HasParted, IsLine, LeavesOwner, StatesOwner, StayOwned, Stays, feed, is_mark, nothing, omits, parts_owner, states}
 use Rattle.zone_files.proofs.Expansions.Own.{IsOwn, spelled_or_not}

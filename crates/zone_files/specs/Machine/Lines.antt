@@ -1,5 +1,5 @@
 -- Lines of a file that are entries by themselves.
-use Rattle.std.specs.Prelude.{◌≡◌, ◌≢◌, ℕ, ◌<◌, List, [], ◌∷◌, ◌++◌, length, take, drop, ◌==◌, ◌||◌, Bool, true, false, not, Option, Some, None}
+use Rattle.std.specs.Prelude.{◌≡◌, ◌≢◌, ℕ, ◌<◌, List, [], ◌∷◌, ◌++◌, length, take, ◌==◌, ◌||◌, Bool, false, not, Option, Some, None}
 use Rattle.std.specs.List.{AllByRecursion, prefix_len}
 use Rattle.zone_name.specs.Common.{Labels}
 use Rattle.zone_name.specs.Spelling.{SpellsCased}
