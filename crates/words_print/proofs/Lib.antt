@@ -6,11 +6,10 @@ mod FirstLine
 mod Classed
 mod Read
 mod Told
-mod Cuts
+pub mod Cuts
 mod DataEnds
 mod Heads
 mod Fitting
 mod CanonicalLines
 mod Origins
 mod OneText
-mod OneItems

@@ -5,14 +5,12 @@ ghost use Rattle.zone_rdata.specs.Item.{RawItem};
 ghost use Rattle.type_data.specs.Kinds.Address.{PrintsIpv4, PrintsIpv6};
 ghost use Rattle.type_data.specs.Kinds.Base64.{PrintsBase64};
 ghost use Rattle.type_data.specs.Kinds.Eui.{PrintsEui};
-ghost use Rattle.type_data.specs.Kinds.Gateway.{PrintsAddressType, PrintsDiscovery, StatesNoAddress, StatesNothing};
+ghost use Rattle.type_data.specs.Kinds.Gateway.{PrintsAddressType, PrintsDiscovery, StatesNoAddress};
 ghost use Rattle.type_data.specs.Kinds.Hexadecimal.{PrintsHex};
 ghost use Rattle.type_data.specs.Kinds.HostIdentity.{PrintsHostIdentityTag, PrintsPublicKey};
-ghost use Rattle.type_data.specs.Kinds.Location.{PrintsLocation};
 ghost use Rattle.type_data.specs.Kinds.Name.{PrintsName};
 ghost use Rattle.type_data.specs.Kinds.NodeId.{PrintsNodeId};
 ghost use Rattle.type_data.specs.Kinds.Number.{PrintsU8, PrintsU16, PrintsU32};
-ghost use Rattle.type_data.specs.Kinds.Prefixes.{PrintsPrefixes};
 ghost use Rattle.type_data.specs.Kinds.Salt.{PrintsSalt};
 ghost use Rattle.type_data.specs.Kinds.Strings.{PrintsPerhaps, PrintsStringItem, PrintsStrings};
 ghost use Rattle.type_data.specs.Kinds.Tag.{PrintsTag};
@@ -49,9 +47,6 @@ pub fn one_item_of_octets()
     ensures value { (octets : List ℕ) → AtMostOneIs (λ items. PrintsValue items octets) }
     ensures string { (octets : List ℕ) → AtMostOneIs (λ items. PrintsStringItem items octets) }
     ensures strings { (octets : List ℕ) → AtMostOneIs (λ items. PrintsStrings items octets) }
-    ensures prefixes { (octets : List ℕ) → AtMostOneIs (λ items. PrintsPrefixes items octets) }
-    ensures location { (octets : List ℕ) → AtMostOneIs (λ items. PrintsLocation items octets) }
-    ensures nothing { (octets : List ℕ) → AtMostOneIs (λ items. StatesNothing items octets) }
     ensures perhaps { (octets : List ℕ) → AtMostOneIs (λ items. PrintsPerhaps items octets) }
 {}
 

@@ -1,5 +1,4 @@
 use Rattle.words_print.proofs.OneText.{strings, base64_items, hex_items, perhaps_items, string_items, value_items}
-use Rattle.words_print.proofs.OneItems.{location, nothing, prefixes}
 use Rattle.words_print.proofs.laws.printed.one_item_of_octets.Goals as goal
 
 pub returns-clause-hex : goal.returns-clause-hex
@@ -19,12 +18,3 @@ returns-clause-perhaps c = perhaps_items
 
 pub returns-clause-strings : goal.returns-clause-strings
 returns-clause-strings c = strings
-
-pub returns-clause-prefixes : goal.returns-clause-prefixes
-returns-clause-prefixes c = prefixes
-
-pub returns-clause-location : goal.returns-clause-location
-returns-clause-location c = location
-
-pub returns-clause-nothing : goal.returns-clause-nothing
-returns-clause-nothing c = nothing
