@@ -6,7 +6,7 @@ mod FirstLine
 mod Classed
 mod Read
 mod Told
-mod Cuts
+pub mod Cuts
 mod DataEnds
 mod Heads
 mod Fitting

@@ -6,6 +6,7 @@ pub mod Following
 pub mod KeptItems
 pub mod Progressing
 pub mod Own
+pub mod Lines
 pub mod Including
 pub mod Stepping
 pub mod Generating

@@ -5,6 +5,7 @@ pub mod Naming
 pub mod Stepping
 pub mod Progressing
 pub mod Expanding
+pub mod Lines
 pub mod Stacking
 pub mod ExpandedLoading
 pub mod OpenReading

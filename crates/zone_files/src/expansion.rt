@@ -6,6 +6,7 @@ mod files_within;
 mod generating;
 mod holding;
 mod including;
+mod lines;
 mod names;
 mod opened_name;
 mod owners;

@@ -1,6 +1,6 @@
 -- What was written for octets that are fed, part by part.
 use Rattle.zone_text.proofs.Tokens.Lasting.{breaks_for_good, stays_some}
-use Rattle.zone_words.proofs.Common.{AddsTold, AreInShort, BecomesUnder, Breaks, Cut, Cuts, Entry, Err, Fault, FollowInPart, FollowOn, GoesOn, HasWritten, HasWrittenAll, HasWrittenInPart, HeldText, IsBrokenOff, IsFedWriter, IsFirstEntry, IsInherited, IsLeft, IsOneEntry, IsOpen, IsRewriting, IsRewrittenInPart, IsRewrittenSoFar, IsSoFar, IsStopped, Labels, List, None, Ok, OnErr, Option, PushesOctets, RawItem, Refused, Result, Some, TakesFront, Token, WritesAll, [], ap, append-nil, append_assoc, arith, both_ways, count_by-le-length, count_reach, cut_from, drop, drop_all, ended_entries, entry_of, false, first_of, flat_map, flat_map-append, going, held_of, inl, inr, length, length-append, length-take, line_feeds, line_reach, numbered, numbered_then, option_map, option_or, refl, refused_of, reverse, reverse-append, split, stopped, subst, sum_by-append, sym, take, take-append-drop, take-length, text, true, zero, ℕ, ◌++◌, ◌+◌, ◌<◌, ◌==◌, ◌∙◌, ◌∷◌, ◌≡◌, ◌≤◌, ◌⊎◌}
+use Rattle.zone_words.proofs.Common.{AddsTold, AreInShort, BecomesUnder, Breaks, Cut, Cuts, Entry, Err, Fault, FollowInPart, FollowOn, GoesOn, HasWritten, HasWrittenAll, HasWrittenInPart, HeldText, IsBrokenOff, IsFedWriter, IsFirstEntry, IsInherited, IsLeft, IsOneEntry, IsOpen, IsRewriting, IsRewrittenInPart, IsRewrittenSoFar, IsSoFar, IsStopped, Labels, List, None, Ok, OnErr, Option, PushesOctets, RawItem, Refused, Result, Some, TakesFront, Token, WritesAll, [], ap, append-nil, append_assoc, arith, both_ways, common_steps, count_by-le-length, count_reach, cut_from, drop, drop_all, ended_entries, entry_of, false, first_of, flat_map, flat_map-append, going, held_of, inl, inr, length, length-append, length-take, line_feeds, line_reach, numbered, numbered_then, option_map, option_or, refl, refused_of, reverse, reverse-append, split, stopped, subst, sum_by-append, sym, take, take-append-drop, take-length, text, true, zero, ℕ, ◌++◌, ◌+◌, ◌<◌, ◌==◌, ◌∙◌, ◌∷◌, ◌≡◌, ◌≤◌, ◌⊎◌}
 use Rattle.zone_text.proofs.Entries.Begun.{no_tokens}
 use Rattle.zone_text.proofs.Tokens.CutAgain.{joined}
 use Rattle.zone_text.specs.OpenEntry.{EndIs, EntryIs, HeldEntry, TakesFrom}
@@ -337,6 +337,23 @@ module _ (old new : FedWriter) (octets left : List ℕ) (found : Taken) (held : 
             (omega (arith, empty, line)) (omega (arith, empty, ap (λ (r : Refusals). r.count) told))
             (broken_follows old new (take found.len octets) fault unbroken broken none told (written ∙ ap (λ t. old.entries.written.items ++ t) takes.octets) (subst (λ t. IsBrokenOff t fault) takes.octets breaks));
       }
+
+drop_inside : (n : ℕ) (a b : List ℕ) → n ≤ length a → drop n (a ++ b) ≡ drop n a ++ b
+drop_inside n a b within = grind (arith, common_steps)
+
+-- fewer octets were offered than there are
+pub some_taken : (old new : FedWriter) (octets some after left : List ℕ) (n : ℕ) → octets ≡ some ++ after → n ≤ length some → left ≡ drop n octets → IsTaken old new some (drop n some) → IsTaken old new octets left
+some_taken old new octets some after left n parts within is t = record {
+  is = t.is;
+  front = record {
+    part = t.front.part;
+    some = t.front.some;
+    lines = t.front.lines;
+    counts = t.front.counts;
+    follow = t.front.follow;
+    whole = parts ∙ ap (λ x. x ++ after) t.front.whole ∙ append_assoc t.front.part (drop n some) after ∙ ap (λ x. t.front.part ++ x) (sym (is ∙ ap (drop n) parts ∙ drop_inside n some after within));
+  };
+}
 
 -- the entry at the front is whole
 pub whole_taken : (old new : FedWriter) (octets entry left : List ℕ) (n : ℕ) (kept : List RawItem) → IsFedWriter old → old.is_broken ≡ false → old.unfinished.octets ≡ [] → new.unfinished ≡ old.unfinished → new.is_broken ≡ old.is_broken → entry ≡ take n octets → left ≡ drop n octets → IsFirstEntry octets n kept → PushesEntry entry kept old.entries new.entries → new.entries.refusals.count ≤ old.entries.refusals.count + 1 → IsTaken old new octets left

@@ -21,6 +21,9 @@ use zone_name::CasedName;
 use zone_rdata::Item;
 use zone_text::{EntryState, FirstEntry, OpenEntry, entry_items, first_entry};
 
+/// How many octets the entry that isn't ended takes at once. It copies them, and mostly ends soon.
+const AT_ONCE: usize = 1024;
+
 /// What is written for the entries that were ended, and the octets after them.
 #[derive(Drop)]
 pub(crate) struct FedWriter {
@@ -120,7 +123,8 @@ impl FedWriter {
                 return Ok(left);
             }
         }
-        let taken = self.unfinished.take(octets)?;
+        let (some, _) = octets.split_at(octets.len().min(AT_ONCE));
+        let taken = self.unfinished.take(some)?;
         match taken.state {
             EntryState::Open => {}
             EntryState::Ended => self.end_entry()?,

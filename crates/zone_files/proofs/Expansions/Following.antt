@@ -1,5 +1,6 @@
 -- How an expander follows the octets that it is fed.
-use Rattle.std.proofs.Common.{◌≡◌, ℕ, zero, ◌<◌, List, [], ◌∷◌, ◌++◌, length, take, drop, Option, Some, None, Bool, true, false, refl, sym, ap, subst, ◌∙◌, append_assoc, append-nil, arith, take-append-drop}
+use Rattle.std.proofs.Common.{◌≡◌, ℕ, zero, ◌<◌, ◌≤◌, List, [], ◌∷◌, ◌++◌, length, take, drop, Option, Some, None, Bool, true, false, refl, sym, ap, subst, ◌∙◌, append_assoc, append-nil, arith, take-append-drop}
+use Rattle.std.proofs.lemmas.Grind.{common_steps}
 use Rattle.std.proofs.lemmas.List.{length-drop}
 use Rattle.zone_rdata.specs.Item.{RawItem}
 use Rattle.zone_rdata.specs.declared.fault.Fault.{Fault}
@@ -16,6 +17,7 @@ use Rattle.zone_generate.specs.Steps.{TakesLines}
 use Rattle.zone_files.specs.Expansion.{Ending, Expands, Files, Holds, back_in, breaks_off, ends, file, no_files, origin_line, stops, stops_at, within}
 use Rattle.zone_files.specs.FileExpander.{AfterInner, AfterLines, Continues, GoesOn, HasFewerLines, IsOver, NamedFile, StandsBy, StandsFor, TakesIncluded, lines_left, then}
 use Rattle.zone_files.specs.Machine.Expanding.{EntersLast, EntersOctets, Follows, IsExpander, TakesFront, TakesInner, TakesInnerBy, state_of}
+use Rattle.zone_files.specs.Machine.Lines.{Stays}
 use Rattle.zone_files.specs.Machine.Progressing.{Entered, Enters, GivesLines, end_of, gives_fault, gives_last, gives_some, has_begun, has_failed, has_none, has_opened, was_written}
 use Rattle.zone_files.specs.declared.fault.ExpansionFault.{ExpansionFault}
 use Rattle.zone_files.specs.declared.expansion.file_expansion.FileExpansion.{FileExpansion}
@@ -23,6 +25,9 @@ use Rattle.zone_files.specs.declared.expansion.progress.FileStatus.{FileStatus}
 use Rattle.zone_files.specs.declared.expansion.progress.FileStatus.TheVariants as statuses
 use Rattle.zone_files.specs.declared.expansion.progress.Progress.{Progress}
 use Rattle.zone_files.proofs.Expansions.Steps.{continues_after, continues_broken, continues_entry, continues_failed, continues_lines, continues_more, file_breaks, file_last, file_none, leads_after, leads_ended, leads_failed, leads_lines, then_none}
+
+drop_inside : (n : ℕ) (a b : List ℕ) → n ≤ length a → drop n (a ++ b) ≡ drop n a ++ b
+drop_inside n a b within = grind (arith, common_steps)
 
 -- ---- what an expander stands for, by its status
 
@@ -177,6 +182,20 @@ module _ (old new : FileExpansion) (going : old.progress.status ≡ statuses.Goi
 
   -- ---- a front of octets
 
+  -- lines that stay
+  pub lines_taken : (octets lines left before after : List ℕ) → old.unfinished.octets ≡ [] → new.unfinished.octets ≡ [] → new.progress.status ≡ statuses.Going → octets ≡ lines ++ left → Stays old.progress.holding lines new.progress.holding → after ≡ before ++ lines → TakesFront old octets left new before after
+  lines_taken octets lines left before after none none_new st parts stay w = record {
+    part = lines;
+    whole = parts;
+    writes = record {
+      made = lines;
+      written = w;
+      stands = λ start fed files given s. to_status new statuses.Going start (fed ++ lines) files (given ++ lines) st
+          (subst (λ t. Continues start new.progress.holding t (fed ++ lines) files (given ++ lines)) (sym none_new)
+          (stay start fed files given (subst (λ t. Continues start old.progress.holding t fed files given) none (from_status old statuses.Going start fed files given going s))));
+    };
+  }
+
   -- the entry at the front is whole
   pub whole_taken : (octets front left : List ℕ) (n : ℕ) (kept : List RawItem) (before after : List ℕ) → old.unfinished.octets ≡ [] → new.unfinished ≡ old.unfinished → front ≡ take n octets → left ≡ drop n octets → IsFirstEntry octets n kept → Enters old.progress front kept false new.progress before after → TakesFront old octets left new before after
   whole_taken octets front left n kept before after none same front_is left_is first enters = record {
@@ -217,6 +236,14 @@ module _ (old new : FileExpansion) (going : old.progress.status ≡ statuses.Goi
 
     pub fewer_left : IsExpander old → 0 < length octets → length left < length octets
     fewer_left is some = let moves : 0 < found.len = takes.some is.state some in omega (arith, moves, takes.within, ap length left_is, length-drop found.len octets)
+
+-- fewer octets were offered than there are
+pub some_taken : (old new : FileExpansion) (octets some after left : List ℕ) (n : ℕ) (before written : List ℕ) → octets ≡ some ++ after → n ≤ length some → left ≡ drop n octets → TakesFront old some (drop n some) new before written → TakesFront old octets left new before written
+some_taken old new octets some after left n before written parts within is f = record {
+  part = f.part;
+  whole = parts ∙ ap (λ t. t ++ after) f.whole ∙ append_assoc f.part (drop n some) after ∙ ap (λ t. f.part ++ t) (sym (is ∙ ap (drop n) parts ∙ drop_inside n some after within));
+  writes = f.writes;
+}
 
 -- ---- octets more
 

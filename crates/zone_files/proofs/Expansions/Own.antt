@@ -28,10 +28,10 @@ use Rattle.zone_files.specs.Expansion.{DirectiveBecomes, EachExpands, Ending, En
 
 -- ---- names, or none
 
-abbrev Named : (Labels → Type 0) → Type 0
+abbrev pub Named : (Labels → Type 0) → Type 0
 Named Is = (named : Option Labels) × IsOneOrNone Is named × IfSome named IsCasedName
 
-spelled_or_not : (above : Labels) → IsCasedName above → (text : List ℕ) → AreOctets text → Named (SpellsCased (Some above) text)
+pub spelled_or_not : (above : Labels) → IsCasedName above → (text : List ℕ) → AreOctets text → Named (SpellsCased (Some above) text)
 spelled_or_not above is text low = elim ((one_verdict_cased (Some above) text is low).one_of) [
   | inl found ↦ (Some found.0, found.1, found.1.name)
   | inr wrong ↦ (None, (λ name h. SpellsCased-faultless (Some above) text name wrong.0 h wrong.1), tt)
@@ -44,7 +44,7 @@ origin_or_not above is (quoted text ∷ []) low = (None, (λ name h. h), tt)
 origin_or_not above is (bare text ∷ item ∷ items) low = (None, (λ name h. h), tt)
 origin_or_not above is (quoted text ∷ item ∷ items) low = (None, (λ name h. h), tt)
 
-owner_or_not : (origin : Labels) → IsCasedName origin → (item : RawItem) → AreOctets (item_text item) → Named (SpellsOwner origin item)
+pub owner_or_not : (origin : Labels) → IsCasedName origin → (item : RawItem) → AreOctets (item_text item) → Named (SpellsOwner origin item)
 owner_or_not origin is (bare text) low = spelled_or_not origin is text low
 owner_or_not origin is (quoted text) low = (None, (λ name h. h), tt)
 
@@ -126,7 +126,7 @@ low_items (line_feed ∷ ts) low = low_items ts low.1
 low_items (comment octets ∷ ts) low = low_items ts (back_low (token_text (comment octets)) (text ts) low)
 
 -- none is taken out
-not_out : (h : Holds) (tokens : List Token) (outcome : Outcome) → h.taken_out ≡ [] → StatementBecomes h (text tokens) (flat_map item_of tokens) (statement_of (entry_of 1 tokens)) outcome → EntryBecomes h tokens outcome
+pub not_out : (h : Holds) (tokens : List Token) (outcome : Outcome) → h.taken_out ≡ [] → StatementBecomes h (text tokens) (flat_map item_of tokens) (statement_of (entry_of 1 tokens)) outcome → EntryBecomes h tokens outcome
 not_out h tokens outcome none p =
     let form : Statement = statement_of (entry_of 1 tokens) in
     subst (λ lines. TakenOutOr (is_next lines h.line (lines_of form (flat_map item_of tokens))) h (text tokens) (flat_map item_of tokens) form outcome) (sym none) p

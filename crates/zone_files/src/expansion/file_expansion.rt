@@ -1,17 +1,22 @@
 //! A file that is expanded while it is read.
-ghost use Rattle.std.specs.Prelude.{◌≡◌, ◌<◌, ◌≤◌, ◌+◌, ◌++◌, ◌∷◌, ◌⊎◌, [], ℕ, List, None, Some, length, map, take, true, false, IfOk, OnOk, OnErr};
+ghost use Rattle.std.specs.Prelude.{◌≡◌, ◌<◌, ◌≤◌, ◌+◌, ◌++◌, ◌∷◌, ◌⊎◌, [], ℕ, List, None, Some, length, map, take, true, false, IfNone, IfOk, IfSome, OnOk, OnErr};
 ghost use Rattle.zone_files.specs.FileExpander.{AddsWithin, HasFewerLines, IsOver};
 ghost use Rattle.zone_files.specs.Turns.{EndsFile, GoesAfterLines, TakesSome};
 ghost use Rattle.zone_files.specs.Machine.Expanding.{EntersLast, EntersOctets, Follows, IsExpander, TakesFront, TakesInner, state_of};
+ghost use Rattle.zone_files.specs.Machine.Lines.{MayStay};
 ghost use Rattle.zone_files.specs.declared.expansion.progress.FileStatus.TheVariants.{Broken, Ended, Generating, Going, Including, Failed};
 ghost use Rattle.zone_text.specs.declared.open_entry.EntryState.TheVariants.{Open};
 
 use crate::expansion::holding::Holding;
+use crate::expansion::lines::lines_in_front;
 use crate::expansion::names::push_origin_line;
 use crate::expansion::progress::{FileStatus, Progress, end_of};
 use std::alloc::{AllocError, Global};
 use zone_rdata::Item;
 use zone_text::{EntryState, FirstEntry, OpenEntry, entry_items, first_entry};
+
+/// How many octets the entry that isn't ended takes at once. It copies them, and mostly ends soon.
+const AT_ONCE: usize = 1024;
 
 /// What is expanded of a file, and what waits.
 #[derive(Drop)]
@@ -50,9 +55,31 @@ impl FileExpansion {
         Ok(rest)
     }
 
+    /// Takes the lines at the front of octets that are entries by themselves and stay, or else an entry,
+    /// and gives what is left of them.
+    fn take_front<'p>(
+        &mut self,
+        octets: &'p [u8],
+        items: &mut Vec<Item<'p>>,
+        out: &mut Vec<u8>,
+    ) -> Result<&'p [u8], AllocError>
+        requires is { IsExpander self.old }
+        requires going { self.old.progress.status ≡ Going }
+        requires some { 0 < length octets.now }
+        ensures is { OnOk result (IsExpander self.new) }
+        ensures front { IfOk result (λ left. TakesFront self.old octets.now left.now self.new
+            out.old.items out.new.items) }
+        ensures shorter { IfOk result (λ left. length left.now < length octets.now) }
+    {
+        match self.take_lines(octets, out)? {
+            Some(left) => Ok(left),
+            None => self.take_entry(octets, items, out),
+        }
+    }
+
     /// Takes the entry at the front of octets, or what they have of the one that isn't ended, and
     /// gives what is left of them.
-    fn take_front<'p>(
+    fn take_entry<'p>(
         &mut self,
         octets: &'p [u8],
         items: &mut Vec<Item<'p>>,
@@ -73,7 +100,8 @@ impl FileExpansion {
                 return Ok(left);
             }
         }
-        let taken = self.unfinished.take(octets)?;
+        let (some, _) = octets.split_at(octets.len().min(AT_ONCE));
+        let taken = self.unfinished.take(some)?;
         let (_, left) = octets.split_at(taken.len);
         match taken.state {
             EntryState::Open => Ok(left),
@@ -86,6 +114,42 @@ impl FileExpansion {
                 Ok(left)
             }
         }
+    }
+
+    /// Whether an entry begins, and lines that are entries by themselves stay.
+    fn may_take_lines(&self) -> bool
+        ensures none { result ≡ true → self.now.unfinished.octets ≡ [] }
+        ensures may { result ≡ true → MayStay self.now.progress.holding }
+    {
+        self.unfinished.octets().is_empty() && self.progress.holding.keeps_lines()
+    }
+
+    /// Takes the lines at the front of octets that are entries by themselves and stay, and gives what
+    /// is left of them. `None`: nothing is taken.
+    fn take_lines<'p>(
+        &mut self,
+        octets: &'p [u8],
+        out: &mut Vec<u8>,
+    ) -> Result<Option<&'p [u8]>, AllocError>
+        requires going { self.old.progress.status ≡ Going }
+        ensures waiting { OnOk result (self.new.unfinished ≡ self.old.unfinished) }
+        ensures taken { IfOk result (λ taken. IfSome taken (λ left. TakesFront self.old
+            octets.now left.now self.new out.old.items out.new.items)) }
+        ensures shorter { IfOk result (λ taken. IfSome taken
+            (λ left. length left.now < length octets.now)) }
+        ensures same { IfOk result (λ taken. IfNone taken (self.new ≡ self.old)) }
+        ensures nothing { IfOk result (λ taken. IfNone taken (out.new.items ≡ out.old.items)) }
+    {
+        if !self.may_take_lines() {
+            return Ok(None);
+        }
+        let (lines, left) = lines_in_front(octets);
+        if lines.is_empty() {
+            return Ok(None);
+        }
+        out.extend_from_slice(lines)?;
+        self.progress.holding.take_lines(lines);
+        Ok(Some(left))
     }
 
     /// Takes the entry that the octets held are, and lets go of them.

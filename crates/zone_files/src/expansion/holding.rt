@@ -1,5 +1,5 @@
 //! What holds for the next entry of a file.
-ghost use Rattle.std.specs.Prelude.{◌≡◌, Option, Some, drop, map, bytes_eq, option_map};
+ghost use Rattle.std.specs.Prelude.{◌≡◌, Option, Some, drop, map, bytes_eq, option_map, true};
 ghost use Rattle.std.specs.List.{list_any};
 ghost use Rattle.zone_name.specs.Common.{Labels};
 ghost use Rattle.zone_rdata.specs.Item.{raw};
@@ -7,9 +7,11 @@ ghost use Rattle.zone_words.specs.Inherited.{IsOneOrNone};
 ghost use Rattle.zone_words.specs.Origin.{NamesOrigin};
 ghost use Rattle.zone_files.specs.IncludeStack.{file_name};
 ghost use Rattle.zone_files.specs.Expansion.{SpellsOwner, after_count, is_next, left_out, owned_by, past, stating, under};
+ghost use Rattle.zone_files.specs.Machine.Lines.{AreLines, MayStay, Stays};
 
+use crate::expansion::lines::lines_owner;
 use crate::expansion::opened_name::FileName;
-use crate::expansion::owners::{named_origin, named_owner};
+use crate::expansion::owners::{are_same, named_origin, named_owner};
 use std::marker::Model;
 use zone_name::CasedName;
 use zone_rdata::Item;
@@ -69,7 +71,15 @@ impl Holding {
             × IsOneOrNone (SpellsOwner self.old.origin (raw owner.entry)) named
             × (self.new ≡ owned_by named self.old) }
     {
-        if let Some(name) = named_owner(owner, &self.origin) {
+        let named = named_owner(owner, &self.origin);
+        self.hold_owner(named);
+    }
+
+    /// Takes an owner that was stated last, if it is a name.
+    fn hold_owner(&mut self, named: Option<CasedName>)
+        ensures { self.new ≡ owned_by named self.old }
+    {
+        if let Some(name) = named {
             self.stated = Some(name.copy());
             self.owner = Some(name);
         }
@@ -134,6 +144,29 @@ impl Holding {
             Some(name) => Some(name.as_str()),
             None => None,
         }
+    }
+
+    /// Whether lines that are entries by themselves stay: no entry is taken out any more, and the
+    /// expanded text states last the owner that holds in the file. `false` too where lines can't be
+    /// counted further.
+    pub(crate) fn keeps_lines(&self) -> bool
+        ensures { result ≡ true → MayStay self.now }
+    {
+        if self.line >= u64::MAX {
+            return false;
+        }
+        self.taken_out.is_empty() && are_same(&self.owner, &self.stated)
+    }
+
+    /// Takes what lines leave that are entries by themselves and stay.
+    pub(crate) fn take_lines(&mut self, lines: &[u8])
+        requires lines { AreLines lines.now }
+        requires may { MayStay self.old }
+        ensures { Stays self.old lines.now self.new }
+    {
+        let found = lines_owner(lines, &self.origin);
+        self.pass(lines);
+        self.hold_owner(found);
     }
 
     /// Whether a file of this name is open.
