@@ -1,5 +1,5 @@
 -- From what is checked and told to what a run of `check` leaves.
-use Rattle.std.proofs.Common.{◌≡◌, ◌++◌, true, false, ℕ, zero, suc, ◌<◌, ◌≤◌, List, [], length, arith, subst, sym, refl, absurd, ◌∙◌}
+use Rattle.std.proofs.Common.{◌≡◌, ◌++◌, true, false, ℕ, zero, suc, ◌<◌, ◌≤◌, List, [], length, arith, subst, sym, refl, ◌∙◌}
 use Rattle.std.proofs.KnownBytes.{Keeps-refl}
 use Rattle.std.specs.Prelude.{Option, None, Some, min}
 use Rattle.std.specs.Io.KnownBytes.{Appends}
@@ -78,15 +78,17 @@ some_faults between (suc count) records o status some answers = answers
 -- ---- how many are asked for
 
 pub is_most : (text : Text) (number : ℕ) → IsCapped (IsDecimal text) number → 0 < number → number < 4294967296 → IsMost (Some text) number
-is_most text number (m, is, capped) some fits =
+is_most text number (m, both) some fits =
+    let capped : number ≡ min 4294967296 m = both.1 in
     let same : m ≡ number = omega (arith, capped, fits) in
-    (subst (IsDecimal text) same is, some, fits)
+    (subst (IsDecimal text) same both.0, some, fits)
 
 pub no_most : (text : Text) → NothingIs (IsDecimal text) → NothingIs (IsMost (Some text))
 no_most text none number (is, some, fits) = none number is
 
 pub out_of_range : (text : Text) (number : ℕ) → IsCapped (IsDecimal text) number → (0 < number → number < 4294967296 → ⊥) → NothingIs (IsMost (Some text))
-out_of_range text number (m, is, capped) out other (is_other, some, fits) =
-    let same : m ≡ other = is.value ∙ sym is_other.value in
+out_of_range text number (m, both) out other (is_other, some, fits) =
+    let capped : number ≡ min 4294967296 m = both.1 in
+    let same : m ≡ other = both.0.value ∙ sym is_other.value in
     let low : number ≡ other = omega (arith, capped, same, fits) in
     out (omega (arith, low, some)) (omega (arith, low, fits))
