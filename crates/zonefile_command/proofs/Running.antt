@@ -87,13 +87,13 @@ module _ {S File : Type 0} (folder : Folder S File) (directory : Option (List �
     counts z count status gives is answers =
         counted z status gives (subst (λ (n : ℕ). Answers (records_line n) 0 (outputs output output' errors errors') status) is answers)
 
-    pub refuses : (stop : FilesStop) (status : ℕ) → GivesNone folder source old new stop → files_status stop ≡ 3
+    pub refuses : (stop : FilesStop) (status : ℕ) → GivesNone folder directory source old new stop → files_status stop ≡ 3
         → ((line : List ℕ) × IsStopLine [] text stop line × Answers line 3 (outputs output output' errors errors') status)
         → Explains folder directory source old new (outputs output output' errors errors') status
     refuses stop status none is (line, of, answers) =
         refused stop line status none is (subst (λ (t : List ℕ). IsStopLine [] t stop line) same of) answers
 
-    pub can_not_read : (stop : FilesStop) (status : ℕ) → GivesNone folder source old new stop → (files_status stop ≡ 3 → ⊥)
+    pub can_not_read : (stop : FilesStop) (status : ℕ) → GivesNone folder directory source old new stop → (files_status stop ≡ 3 → ⊥)
         → ((line : List ℕ) × IsStopLine [] text stop line × TellsLine line (files_status stop) errors errors' status)
         → Explains folder directory source old new (outputs output output errors errors') status
     can_not_read stop status none isnt told = unread stop status none isnt (told_stop [] (string_bytes source.file) text stop output errors errors' status same told)
@@ -107,7 +107,7 @@ module _ {S File : Type 0} (folder : Folder S File) (directory : Option (List �
         → Normalises folder directory source notation old new (outputs output output' errors errors') status
     does_not_write notation z why status gives stopped told = unwritten z status gives (record { stop = why; stopped = stopped; told = told })
 
-    pub gives_none : (notation : Notation) (stop : FilesStop) (status : ℕ) → GivesNone folder source old new stop
+    pub gives_none : (notation : Notation) (stop : FilesStop) (status : ℕ) → GivesNone folder directory source old new stop
         → ((line : List ℕ) × IsStopLine [] text stop line × TellsLine line (files_status stop) errors errors' status)
         → Normalises folder directory source notation old new (outputs output output errors errors') status
     gives_none notation stop status none told = no_zone stop status none (told_stop [] (string_bytes source.file) text stop output errors errors' status same told)

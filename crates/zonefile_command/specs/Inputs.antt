@@ -16,6 +16,7 @@ use Rattle.zone_files.specs.declared.files.stop.FilesStop.{FilesStop}
 use Rattle.zone_files.specs.declared.files.stop.FilesStop.TheVariants as stops
 use Rattle.zone_files.specs.ExpandedLoader.{FilesDenote}
 use Rattle.zone_files.specs.Expansion.{Files}
+use Rattle.zone_files.specs.FilesStopped.{StopsLoading}
 use Rattle.zone_files.specs.Reading.{ReadsFiles}
 use Rattle.zonefile_command.specs.declared.order.FileSource.{FileSource}
 
@@ -60,12 +61,13 @@ pub data StopsTransfer (known : Option (List ℕ)) : FilesStop → Type 0 where
       → IfSome known (λ octets. IfRefused stop (IsRefusal (transfer octets)))
       → StopsTransfer known (stops.Input stop)
 
--- Why an input gives no zone, once it was opened. Of master files it isn't stated here.
-abbrev pub StopsInput : {S File : Type 0} → Folder S File → Option Labels → File → S → S → FilesStop
-    → Type 0
-StopsInput folder None main old new stop =
+-- why an input gives no zone, once it was opened
+abbrev pub StopsInput : {S File : Type 0} → Folder S File → Option (List ℕ) → List ℕ → Option Labels
+    → File → S → S → FilesStop → Type 0
+StopsInput folder directory path None main old new stop =
     (old ≡ new) × StopsTransfer (folder.device main).octets stop
-StopsInput folder (Some origin) main old new stop = Unit {0}
+StopsInput folder directory path (Some origin) main old new stop =
+    StopsLoading folder.opens folder.device main directory path origin old new stop
 
 -- Two inputs give these zones, one after the other.
 pub record GiveZones {S File : Type 0} (folder : Folder S File) (directory : Option (List ℕ))
@@ -75,23 +77,23 @@ pub record GiveZones {S File : Type 0} (folder : Folder S File) (directory : Opt
   pub gives_other : GivesZone folder directory second between new other
 
 -- why an input gives no zone: it can't be opened, or it is refused or can't be read
-pub data GivesNone {S File : Type 0} (folder : Folder S File) (source : FileSource) (old new : S)
-    : FilesStop → Type 0 where
+pub data GivesNone {S File : Type 0} (folder : Folder S File) (directory : Option (List ℕ))
+    (source : FileSource) (old new : S) : FilesStop → Type 0 where
   unopened : folder.opens_main old (string_bytes source.file) None new
-      → GivesNone folder source old new (stops.Input Read)
+      → GivesNone folder directory source old new (stops.Input Read)
   stopped : (main : File) (begun : S) (stop : FilesStop)
       → folder.opens_main old (string_bytes source.file) (Some main) begun
-      → StopsInput folder source.origin main begun new stop
-      → GivesNone folder source old new stop
+      → StopsInput folder directory (string_bytes source.file) source.origin main begun new stop
+      → GivesNone folder directory source old new stop
 
 -- Why two inputs give no zones, and which of them: the first that gives none.
 pub data GivesNoneOfTwo {S File : Type 0} (folder : Folder S File) (directory : Option (List ℕ))
     (first second : FileSource) (old new : S) : Which → FilesStop → Type 0 where
-  no_first : (stop : FilesStop) → GivesNone folder first old new stop
+  no_first : (stop : FilesStop) → GivesNone folder directory first old new stop
       → GivesNoneOfTwo folder directory first second old new First stop
   no_second : (z : Zone) (between : S) (stop : FilesStop)
       → GivesZone folder directory first old between z
-      → GivesNone folder second between new stop
+      → GivesNone folder directory second between new stop
       → GivesNoneOfTwo folder directory first second old new Second stop
 
 -- the path of one of two inputs

@@ -122,7 +122,7 @@ pub data Normalises {S File : Type 0} (folder : Folder S File) (directory : Opti
   unwritten : (z : Zone) (status : ℕ) → GivesZone folder directory source old new z
       → FailsText notation z o status
       → Normalises folder directory source notation old new o status
-  no_zone : (stop : FilesStop) (status : ℕ) → GivesNone folder source old new stop
+  no_zone : (stop : FilesStop) (status : ℕ) → GivesNone folder directory source old new stop
       → TellsStop [] (string_bytes source.file) stop o status
       → Normalises folder directory source notation old new o status
 
@@ -134,10 +134,10 @@ pub data Explains {S File : Type 0} (folder : Folder S File) (directory : Option
       → Answers (records_line (min (length z.records) (2 ^ 64 - 1))) 0 o status
       → Explains folder directory source old new o status
   refused : (stop : FilesStop) (line : List ℕ) (status : ℕ)
-      → GivesNone folder source old new stop → files_status stop ≡ 3
+      → GivesNone folder directory source old new stop → files_status stop ≡ 3
       → IsStopLine [] (string_bytes source.file) stop line → Answers line 3 o status
       → Explains folder directory source old new o status
-  unread : (stop : FilesStop) (status : ℕ) → GivesNone folder source old new stop
+  unread : (stop : FilesStop) (status : ℕ) → GivesNone folder directory source old new stop
       → (files_status stop ≡ 3 → ⊥) → TellsStop [] (string_bytes source.file) stop o status
       → Explains folder directory source old new o status
 

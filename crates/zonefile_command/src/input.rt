@@ -2,6 +2,7 @@
 ghost use Rattle.std.specs.Prelude.{◌≤◌, IfErr, IfOk, IfSome, length, option_map};
 ghost use Rattle.zone_engine.specs.Input.{InputDenotes, transfer};
 ghost use Rattle.zone_print.specs.Canonical.{canon, text_limit};
+ghost use Rattle.zone_files.specs.FilesStopped.{StopsLoading};
 ghost use Rattle.zonefile_command.specs.Inputs.{FilesGive, GiveZones, GivesNone, GivesNoneOfTwo, GivesZone, StopsTransfer, folder};
 
 use crate::files::ZoneFiles;
@@ -29,7 +30,7 @@ pub(crate) fn zone_of<S: ZoneFiles>(
         (option_map (λ folder. folder.now) directory.entry) source.now files.old files.new) }
     ensures short { IfOk result (λ z. length (canon z) ≤ text_limit) }
     ensures none { IfErr result (GivesNone (folder S.opens_main S.opens S.File.state)
-        source.now files.old files.new) }
+        (option_map (λ folder. folder.now) directory.entry) source.now files.old files.new) }
 {
     let path = source.file.as_str();
     let Some(main) = files.open_main(path) else {
@@ -54,6 +55,8 @@ fn zone_of_files<S: ZoneFiles>(
         (option_map (λ folder. folder.now) directory.entry) path.now origin.now main
         files.old files.new) }
     ensures short { IfOk result (λ z. length (canon z) ≤ text_limit) }
+    ensures none { IfErr result (StopsLoading S.opens S.File.state main
+        (option_map (λ folder. folder.now) directory.entry) path.now origin.now files.old files.new) }
 {
     match load_files(alloc, directory, path, origin, main, files) {
         Ok((zone, _stack)) => Ok(zone),
