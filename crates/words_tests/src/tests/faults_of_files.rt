@@ -55,7 +55,11 @@ impl Question for Faults {
             push_fault(alloc, out, found)?;
         }
         match &checked.end {
-            CheckEnd::Accepted(count) => push_words(alloc, out, format_args!("records: {}\n", count)),
+            CheckEnd::Accepted(count) => push_words(
+                alloc,
+                out,
+                format_args!("records: {}\n", count),
+            ),
             CheckEnd::Enough => push_text(out, "enough\n"),
             CheckEnd::Last => push_text(out, "last\n"),
             CheckEnd::Unread(stack) => {
