@@ -168,23 +168,23 @@ class Servers(Fleet):
                                      "zonectl: ns3: 500 zones not compared: the connection was refused\n"))
 
     def test_a_silent_one_costs_one_timeout(self) -> None:
-        self.listed(f"silent{it}." for it in range(60))
+        self.listed(f"silent{it}." for it in range(120))
         with secondary() as server:
             self.config(server.port, of_server="timeout = 1")
             began = time.monotonic()
             it = self.fleet("-j", "4")
-            self.assertEqual(it, Ran(4, counted(60, failed=60), "zonectl: ns2: 60 zones not compared: nothing came for 1 s (--timeout)\n"))
-            self.assertLess(time.monotonic() - began, 5)
+            self.assertEqual(it, Ran(4, counted(120, failed=120), "zonectl: ns2: 120 zones not compared: nothing came for 1 s (--timeout)\n"))
+            self.assertLess(time.monotonic() - began, 20)  # a timeout for each zone would take half a minute
 
     def test_a_dripping_one_costs_one_deadline(self) -> None:
-        self.listed(f"drips{it}." for it in range(40))
+        self.listed(f"drips{it}." for it in range(120))
         with secondary() as server:
             self.config(server.port, of_server="deadline = 1")
             began = time.monotonic()
             it = self.fleet("-j", "4")
-            self.assertEqual((it.status, it.out), (4, counted(40, failed=40)))
+            self.assertEqual((it.status, it.out), (4, counted(120, failed=120)))
             self.assertIn("the transfer took longer than 1 s (--deadline)", it.err)
-            self.assertLess(time.monotonic() - began, 5)
+            self.assertLess(time.monotonic() - began, 20)  # a deadline for each zone would take half a minute
 
     def test_one_silent_zone_does_not_stop_the_others(self) -> None:
         self.listed(["stuck.", *(f"z{it}." for it in range(200))])
@@ -241,9 +241,13 @@ class Servers(Fleet):
             for number in (signal.SIGINT, signal.SIGTERM, signal.SIGHUP):
                 ran = subprocess.Popen(command("fleet", "run", "-c", "fleet.toml"), stdout=subprocess.PIPE, stderr=subprocess.PIPE,
                                        env=environment(), text=True)
-                time.sleep(1)
+                asked = sum(server.names.values())
+                for _ in range(400):
+                    time.sleep(0.05)
+                    if sum(server.names.values()) > asked:
+                        break
                 ran.send_signal(number)
-                self.assertEqual(ran.communicate(timeout=10), ("", "zonectl: interrupted\n"))
+                self.assertEqual(ran.communicate(timeout=30), ("", "zonectl: interrupted\n"))
                 self.assertEqual((ran.returncode, sorted(os.listdir())), (4, ["fleet.toml", "z", "zones.list"]))
 
 

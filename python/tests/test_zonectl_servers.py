@@ -140,7 +140,7 @@ class Hostile(InFolder):
         begun = time.monotonic()
         it, url = self.fetched(silent, "-t", "0.3")
         self.assert_failed(it, 4, f"zonectl: {url}: nothing came for 0.30 s (--timeout)")
-        self.assertLess(time.monotonic() - begun, 3)
+        self.assertLess(time.monotonic() - begun, 15)
 
     def test_dripping_ends_at_the_deadline(self) -> None:
         begun = time.monotonic()
@@ -148,7 +148,7 @@ class Hostile(InFolder):
         self.assert_failed(it, 4, f"zonectl: {url}: the transfer took longer than 0.50 s (--deadline)")
         it, url = self.fetched(drips(AXFR), "--run-deadline", "0.5")
         self.assert_failed(it, 4, f"zonectl: {url}: the command took longer than 0.50 s (--run-deadline)")
-        self.assertLess(time.monotonic() - begun, 5)
+        self.assertLess(time.monotonic() - begun, 20)
 
     def test_an_endless_transfer_ends_at_the_size(self) -> None:
         it, url = self.fetched(endless, "--max-size", "1M")
